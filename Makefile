@@ -1,0 +1,22 @@
+# make demo    the main job, on a worked example
+# make test    the gate: proofs, must-fail edits, programs, and a fresh set of cases compared with the second program
+#              make test SEED=17 COUNT=5000 repeats a set, or makes a larger one
+# make bench   instructions per call against plain C
+# make cases   writes the stored cases of the answering programs anew (after a call was added to both programs)
+SEED =
+COUNT = 3000
+LIMIT = 1.10
+
+.PHONY: test demo bench cases
+
+test:
+	@sh scripts/test.sh "$(COUNT)" "$(SEED)"
+
+demo:
+	@sh scripts/demo.sh
+
+bench:
+	@sh bench/count.sh "$(LIMIT)"
+
+cases:
+	@sh scripts/cases.sh

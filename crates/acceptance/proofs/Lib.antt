@@ -1,0 +1,4 @@
+pub mod Unique
+pub mod UniqueFrame
+pub mod UniqueSteps
+pub mod UniqueStream

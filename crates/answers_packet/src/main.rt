@@ -1,0 +1,47 @@
+// Answers the cases of data packets (calls 30 to 32 of docs/CASES.md) through the library. Nothing here decides an answer.
+mod packets;
+
+use cases::answer;
+use cases::case;
+use cases::input;
+
+// The answer to one case, at the front of out. one and two take the buffers that the case hands over.
+fn answer_to(call: u8, body: &[u8], one: &mut [u8], two: &mut [u8], out: &mut [u8]) -> usize {
+    match call {
+        30 => packets::check(body, one, out),
+        31 => packets::read(body, one, out),
+        32 => packets::write(body, one, two, out),
+        _ => answer::none(out),
+    }
+}
+
+// Reads a case and writes its answer. False where no further case can be read.
+fn answer_next(body: &mut [u8], one: &mut [u8], two: &mut [u8]) -> bool {
+    let next = input::next(body);
+    if next.ended {
+        return false;
+    }
+    let mut out = [0u8; case::ANSWER];
+    if next.whole {
+        let n = answer_to(next.call, case::front(body, next.size), one, two, &mut out);
+        return io::write_all(1, case::front(&out, n));
+    }
+    let n = answer::none(&mut out);
+    io::write_all(1, case::front(&out, n));
+    false
+}
+
+// A proved loop has to end, and nothing says that the input does. So the loop counts its turns down, from a number that no run uses up.
+fn answer_all(body: &mut [u8], one: &mut [u8], two: &mut [u8]) {
+    let mut turns = u64::MAX;
+    while turns > 0 && answer_next(body, one, two) {
+        turns -= 1;
+    }
+}
+
+fn main() {
+    let mut body = [0u8; case::BODY];
+    let mut one = [0u8; case::BUFFER];
+    let mut two = [0u8; case::BUFFER];
+    answer_all(&mut body, &mut one, &mut two);
+}

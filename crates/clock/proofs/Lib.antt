@@ -1,0 +1,6 @@
+pub mod Answers
+pub mod Back
+pub mod Examples
+pub mod Fit
+pub mod Later
+pub mod Successor

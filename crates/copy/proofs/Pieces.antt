@@ -1,0 +1,52 @@
+-- What `put` answers and leaves, and pieces written one behind the other. Assumes nothing.
+use mathlib.Core.Path.{_≡_, refl, sym, ap, _∙_, subst}
+use mathlib.Core.List.{List, [], _++_}
+use Prim.Native.Nat.{ℕ, _+_, _-_, _≤_, _<_}
+use native.Mathlib.Omega.{arith}
+use borrow.Author.Tests.{le-leb, lt-leb}
+use lib.ListN.{length, take, length-append}
+use lib.Seq.{take-all}
+use Rattle.laws.specs.Written.{written}
+use Rattle.laws.proofs.Written.{written-none, write-next}
+use Rattle.copy.specs.Copy.{nextFor, outputFor, Puts}
+
+module _ (src dst : List ℕ) (at : ℕ) where
+  pub too-long : length dst < length src → (at ≡ nextFor src dst at) × (dst ≡ outputFor src dst at)
+  unfolding nextFor outputFor
+  too-long h = rw (lt-leb (at + length src) (length dst) (omega arith)) (refl, refl)
+
+  pub too-far : length src ≤ length dst → length dst - length src < at → (at ≡ nextFor src dst at) × (dst ≡ outputFor src dst at)
+  unfolding nextFor outputFor
+  too-far l h = rw (lt-leb (at + length src) (length dst) (omega arith)) (refl, refl)
+
+  pub done : length src ≤ length dst → at ≤ length dst - length src → (e : List ℕ) (j : ℕ) → length src ≤ j → e ≡ written dst at (take j src)
+      → (at + length src ≡ nextFor src dst at) × (e ≡ outputFor src dst at)
+  unfolding nextFor outputFor
+  done l h e j k q = rw (le-leb (at + length src) (length dst) (omega arith)) (refl, q ∙ ap (written dst at) (take-all j src k))
+
+-- one piece that fits
+pub puts : (src d e : List ℕ) (at n : ℕ) → at + length src ≤ length d → n ≡ nextFor src d at → e ≡ outputFor src d at → Puts d at src e n
+unfolding nextFor outputFor
+puts src d e at n h p q =
+    let f = le-leb (at + length src) (length d) h in
+    record { text = rw f at q; end = rw f at p }
+
+-- and one behind it
+pub puts-then : {d : List ℕ} {at : ℕ} {xs e : List ℕ} {n : ℕ} {ys f : List ℕ} {m : ℕ} → n ≤ length d → Puts d at xs e n → Puts e n ys f m
+    → Puts d at (xs ++ ys) f m
+puts-then {d} {at} {xs} {e} {n} {ys} {f} {m} h p q =
+    let pe = p .end in
+    let qe = q .end in
+    let l = length-append xs ys in
+    record {
+      text = q .text ∙ write-next d e at xs ys n (p .end) h (p .text);
+      end = omega arith;
+    }
+
+-- nothing written
+pub puts-none : (d : List ℕ) (at : ℕ) → Puts d at [] d at
+puts-none d at = record { text = sym (written-none d at); end = omega arith }
+
+-- the same bytes, said otherwise
+pub puts-same : {d : List ℕ} {at : ℕ} {xs ys e : List ℕ} {n : ℕ} → xs ≡ ys → Puts d at xs e n → Puts d at ys e n
+puts-same {d} {at} {xs} {ys} {e} {n} q p = subst (λ (s : List ℕ). Puts d at s e n) q p

@@ -1,0 +1,5 @@
+pub mod Register
+pub mod Linear
+pub mod Byte
+pub mod Turns
+pub mod Bytes

@@ -1,0 +1,5 @@
+pub mod Putting
+pub mod Ways
+pub mod Building
+pub mod Cutting
+pub mod RoundTrip

@@ -1,0 +1,9 @@
+pub mod Big
+pub mod Fields
+pub mod Flags
+pub mod Join
+pub mod Refuse
+pub mod Settle
+pub mod Table
+pub mod Written
+pub mod Xor

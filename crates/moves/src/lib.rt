@@ -1,0 +1,59 @@
+// Bytes put into a lent slice: copied from another, zeros, or moved forward within it. Where they have no room there, nothing is
+// written.
+ghost use mathlib.Core.Path.{_≡_};
+ghost use lib.ListN.{replicate};
+ghost use Rattle.moves.specs.Moves.{placed, pulled};
+
+// Copies all of src into dst from index at on.
+pub fn copy(src: &[u8], dst: &mut [u8], at: usize)
+    ensures { λ _. ⌜ now (dst .exit) ≡ placed (now (dst .entry)) at (now (src .entry)) ⌝ }
+{
+    if dst.len() < src.len() {
+        return;
+    }
+    if dst.len() - src.len() < at {
+        return;
+    }
+    let mut j = 0;
+    while j < src.len() {
+        dst[at + j] = src[j];
+        j += 1;
+    }
+}
+
+// n zeros from index at on.
+pub fn clear(dst: &mut [u8], at: usize, n: usize)
+    ensures { λ _. ⌜ now (dst .exit) ≡ placed (now (dst .entry)) at (replicate n 0) ⌝ }
+{
+    if dst.len() < n {
+        return;
+    }
+    if dst.len() - n < at {
+        return;
+    }
+    let mut j = 0;
+    while j < n {
+        dst[at + j] = 0;
+        j += 1;
+    }
+}
+
+// The n bytes from index `from` on, moved to index `to` and on, which is no further back. All others stay.
+pub fn pull(dst: &mut [u8], to: usize, from: usize, n: usize)
+    ensures { λ _. ⌜ now (dst .exit) ≡ pulled (now (dst .entry)) to from n ⌝ }
+{
+    if from < to {
+        return;
+    }
+    if dst.len() < n {
+        return;
+    }
+    if dst.len() - n < from {
+        return;
+    }
+    let mut j = 0;
+    while j < n {
+        dst[to + j] = dst[from + j];
+        j += 1;
+    }
+}

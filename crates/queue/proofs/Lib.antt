@@ -1,0 +1,4 @@
+pub mod Sums
+pub mod Faults
+pub mod Sending
+pub mod Keep

@@ -1,0 +1,59 @@
+-- Sending, one packet at a time. A queue is here the list of the bytes left of each of its units, in the order of loading. Assumes
+-- nothing.
+use Prim.Native.Nat.{ℕ, zero, suc, _+_, _-_, _≤_, min}
+use mathlib.Core.List.{List, [], _∷_, _++_}
+use lib.Dec.{leb}
+use Rattle.laws.specs.Pick.{pick}
+use Rattle.queue.specs.Queue.{addUp, packets}
+
+-- the queue after one packet of p bytes
+unfoldable pub one : ℕ → List ℕ → List ℕ
+one p [] = []
+one p (x ∷ xs) = pick (leb x p) xs ((x - p) ∷ xs)
+
+-- the queue after n packets
+unfoldable pub send : ℕ → ℕ → List ℕ → List ℕ
+send p zero xs = xs
+send p (suc n) xs = one p (send p n xs)
+
+-- the packets that wait
+unfoldable pub waits : ℕ → List ℕ → ℕ
+waits p xs = addUp (packets p) xs
+
+-- no unit is empty
+abbrev pub AllPos : List ℕ → Type 0
+AllPos [] = Unit {0}
+AllPos (x ∷ xs) = (1 ≤ x) × AllPos xs
+
+-- what happened to one queue: a unit of so many bytes was accepted, or a frame with this share took so many packets
+pub data Turn : Type 0 where
+  loaded : (bytes : ℕ) → Turn
+  framed : (share got : ℕ) → Turn
+
+-- the queue after these, in their order
+unfoldable pub after : ℕ → List Turn → List ℕ → List ℕ
+after p [] xs = xs
+after p (loaded x ∷ h) xs = after p h (xs ++ (x ∷ []))
+after p (framed s g ∷ h) xs = after p h (send p g xs)
+
+-- each unit has a byte; each frame took at least the smaller of share and what waited, and no more than waited
+unfoldable pub Lawful : ℕ → List Turn → List ℕ → Type 0
+Lawful p [] xs = Unit {0}
+Lawful p (loaded x ∷ h) xs = (1 ≤ x) × Lawful p h (xs ++ (x ∷ []))
+Lawful p (framed s g ∷ h) xs = (min s (waits p xs) ≤ g) × (g ≤ waits p xs) × Lawful p h (send p g xs)
+
+unfoldable pub shares : List Turn → ℕ
+shares [] = 0
+shares (loaded x ∷ h) = shares h
+shares (framed s g ∷ h) = s + shares h
+
+unfoldable pub got : List Turn → ℕ
+got [] = 0
+got (loaded x ∷ h) = got h
+got (framed s g ∷ h) = g + got h
+
+-- the units that were accepted meanwhile
+unfoldable pub later : List Turn → List ℕ
+later [] = []
+later (loaded x ∷ h) = x ∷ later h
+later (framed s g ∷ h) = later h

@@ -1,0 +1,148 @@
+// One queue of units (01, "Packets, queues and receiver"): its state by value, in numbers. The bytes themselves stand in the lent store.
+ghost use mathlib.Core.Path.{_≡_};
+ghost use Prim.Native.Nat.{_%_, _≤_, min};
+ghost use Rattle.queue.specs.Queue.{packets, units, unsent, waiting, anyEmpty, broken, noUnits, pushed};
+
+// Up to eight units that are not finished, in the order of loading: the bytes left of each, and how many bytes of the first are sent.
+pub struct Queue {
+    pub left: [u16; 8],
+    pub count: usize,
+    pub sent: usize,
+}
+
+fn wide(x: u16) -> usize
+    ensures { λ r. ⌜ (r ≡ x) × (r ≤ 65535) ⌝ }
+{
+    x as usize
+}
+
+// The packets of p data bytes that x bytes take.
+fn packets(p: u8, x: usize) -> usize
+    requires { ⌜ x ≤ 65535 ⌝ }
+    ensures { λ r. ⌜ (r ≡ packets p x) × (r ≤ 65790) ⌝ }
+{
+    if p == 0 {
+        return 0;
+    }
+    let w = p as usize;
+    (x + (w - 1)) / w
+}
+
+fn rest(x: usize, p: u8) -> usize
+    ensures { λ r. ⌜ r ≡ x % p ⌝ }
+{
+    if p == 0 {
+        return x;
+    }
+    x % (p as usize)
+}
+
+impl Queue {
+    // No unit.
+    pub fn fresh() -> Queue
+        ensures { λ r. ⌜ r ≡ noUnits ⌝ }
+    {
+        let left = [0u16; 8];
+        Queue {
+            left: left,
+            count: 0,
+            sent: 0,
+        }
+    }
+
+    // The places of `left` that count, also where the count is wrong.
+    fn used(self) -> usize
+        ensures { λ r. ⌜ (r ≡ min (self .count) 8) × (r ≤ 8) ⌝ }
+    {
+        if self.count <= 8 { self.count } else { 8 }
+    }
+
+    // The bytes not yet sent.
+    pub fn unsent(self) -> usize
+        ensures { λ r. ⌜ (r ≡ unsent self) × (r ≤ 524280) ⌝ }
+    {
+        let n = self.used();
+        let left = self.left;
+        let mut i = 0;
+        let mut bytes: usize = 0;
+        while i < n {
+            bytes += wide(left[i]);
+            i += 1;
+        }
+        bytes
+    }
+
+    // The packets of p data bytes not yet sent.
+    pub fn waiting(self, p: u8) -> usize
+        ensures { λ r. ⌜ r ≡ waiting p self ⌝ }
+    {
+        let n = self.used();
+        let left = self.left;
+        let mut i = 0;
+        let mut sum: usize = 0;
+        while i < n {
+            sum += packets(p, wide(left[i]));
+            i += 1;
+        }
+        sum
+    }
+
+    // Some unit has no byte left.
+    fn has_empty(self) -> bool
+        ensures { λ r. ⌜ r ≡ anyEmpty (units self) ⌝ }
+    {
+        let n = self.used();
+        let left = self.left;
+        let mut i = 0;
+        while i < n {
+            if left[i] == 0 {
+                return true;
+            }
+            i += 1;
+        }
+        false
+    }
+
+    // One of the faults of refusal 17.
+    pub fn is_broken(self, p: u8) -> bool
+        ensures { λ r. ⌜ r ≡ broken p self ⌝ }
+    {
+        let n = self.count;
+        let sent = self.sent;
+        if 8 < n {
+            return true;
+        }
+        if self.has_empty() {
+            return true;
+        }
+        if 4096 < self.unsent() {
+            return true;
+        }
+        if rest(sent, p) != 0 {
+            return true;
+        }
+        if n == 0 {
+            return 0 < sent;
+        }
+        // The first unit's length is what is left and what is sent: the sum is formed only where it fits.
+        if 4096 < sent {
+            return true;
+        }
+        let left = self.left;
+        4096 < wide(left[0]) + sent
+    }
+
+    // One unit of n bytes more, where there are fewer than eight.
+    pub fn pushed(self, n: u16) -> Queue
+        ensures { λ r. ⌜ r ≡ pushed self n ⌝ }
+    {
+        let at = self.count;
+        if 8 <= at {
+            return self;
+        }
+        let mut r = self;
+        r.left[at] = n;
+        r.count = at + 1;
+        r
+    }
+}

@@ -1,0 +1,5 @@
+pub mod Answers
+pub mod Filling
+pub mod Walk
+pub mod Whole
+pub mod Window

@@ -1,0 +1,283 @@
+-- A frame: its rows one behind the other, and what the call answers. Assumes nothing.
+use Prim.Native.Nat.{ℕ, zero, suc, _+_, _-_, _*_, _%_, _≤_, _<_}
+use mathlib.Core.Path.{_≡_, refl, sym, ap, _∙_, subst}
+use mathlib.Core.List.{List, [], _++_}
+use mathlib.Core.Bool.{Bool, true, false, not}
+use native.Mathlib.Nat.{mul-le-mul-right}
+use native.Mathlib.Omega.{arith}
+use borrow.Author.Tests.{eq-eqb, ne-eqb, lt-ltb, le-ltb, le-leb, eqb-true, ltb-false, not-false}
+use lib.Dec.{eqb, lit<}
+use lib.ListN.{length, take, drop, length-drop, length-append}
+use lib.Seq.{take-all, length-take-le}
+use Rattle.laws.specs.Pick.{pick}
+use Rattle.laws.specs.Refuse.{refusedWith}
+use Rattle.laws.specs.Written.{written}
+use Rattle.laws.proofs.Refuse.{free, accepted}
+use Rattle.laws.proofs.Written.{write-next}
+use Rattle.packet.specs.Packet.{packetOf, encode}
+use Rattle.hand.specs.Settings.{total, settingsFor, Allowed}
+use Rattle.hand.specs.Hand.{noThree, handFor}
+use Rattle.hand.specs.declared.Three.{Three}
+use Rattle.hand.specs.declared.Settings.{Settings}
+use Rattle.hand.specs.declared.Handed.{Handed}
+use Rattle.hand.proofs.Allowed.{allowed}
+use Rattle.hand.proofs.Answer.{hand-total}
+use Rattle.moves.specs.Moves.{pulled}
+use Rattle.moves.proofs.Parts.{tail-written}
+use Rattle.queue.specs.Queue.{unsent, broken, noUnits}
+use Rattle.queue.specs.declared.Queue.{Queue}
+use Rattle.queue.proofs.Faults.{sound-ok}
+use Rattle.queue.proofs.Keep.{none-sound}
+use Rattle.row.specs.Row.{headLen, popped, packetAt, stepped, steps, outs, startOf, fits, rowFor, rowOut}
+use Rattle.row.specs.declared.Out.{Out}
+use Rattle.row.proofs.Taken.{headLen-p}
+use Rattle.row.proofs.Steps.{Fit, fit-back, outs-length}
+use Rattle.sender.specs.State.{queueOf, indexOf, outOf, partOf, brokenState, waitingOf}
+use Rattle.sender.specs.Frame.{Ready, handOf, rowAt, nulls, framePackets, endOf, endsOf, nextFrom, closed, closedAll, frameTests, frameNumber, framed, frameFor, frameBytes, outFor, storeAfter}
+use Rattle.sender.specs.Frame as spec
+use Rattle.sender.specs.declared.Sender.{Sender}
+use Rattle.sender.specs.declared.Framed.{Framed}
+use Rattle.sender.specs.declared.Ends.{Ends}
+use Rattle.sender.proofs.Faults.{Fine, fine-of}
+
+-- ---- a row into the frame from an offset on
+row-into : (p id n : ℕ) (q : Queue) (index : ℕ) (region out : List ℕ) (at m : ℕ) → at ≤ length out → m ≡ length out - at
+    → Fit p id n q index (length region) (length out - at) → (r : Out) (y : List ℕ)
+    → r ≡ rowFor p id n q index (length region) (length (take m (drop at out))) → y ≡ rowOut p id n q index region (take m (drop at out))
+    → (r ≡ steps p n (startOf q index)) × (take at out ++ (y ++ drop m (drop at out)) ≡ written out at (outs p id region n (startOf q index)))
+unfolding rowFor rowOut
+row-into p id n q index region out at m h em f r y er ey =
+    let xs = outs p id region n (startOf q index) in
+    let t : take m (drop at out) ≡ drop at out = take-all m (drop at out) (omega (arith, length-drop at out)) in
+    let b : fits p id n q index (length region) (length out - at) ≡ true = fit-back p id n q index (length region) (length out - at) f in
+    let c : fits p id n q index (length region) (length (take m (drop at out))) ≡ true =
+    ap (λ (l : List ℕ). fits p id n q index (length region) (length l)) t ∙ ap (fits p id n q index (length region)) (length-drop at out) ∙ b in
+    let z : y ≡ written (drop at out) 0 xs =
+    ey ∙ ap (λ (x : Bool). pick x (written (take m (drop at out)) 0 xs) (take m (drop at out))) c ∙ ap (λ (l : List ℕ). written l 0 xs) t in
+    (er ∙ ap (λ (x : Bool). pick x (steps p n (startOf q index)) (startOf q index)) c, tail-written out y xs at m (omega arith) z)
+
+part-length : (store : List ℕ) (id : ℕ) → id < 3 → length store ≡ 12288 → length (partOf store id) ≡ 4096
+part-length store id h l = length-take-le 4096 (drop (id * 4096) store) (omega (arith, length-drop (id * 4096) store))
+
+-- a queue, and its index
+fine-queue : (p : ℕ) (s : Sender) (id : ℕ) → id < 3 → Fine p s → (broken p (queueOf s id) ≡ false) × (indexOf s id ≤ 7)
+fine-queue p s zero h f = (f .q0, f .i0)
+fine-queue p s (suc zero) h f = (f .q1, f .i1)
+fine-queue p s (suc (suc zero)) h f = (f .q2, f .i2)
+fine-queue p s (suc (suc (suc id))) h f = absurd (omega arith)
+
+pub row-at-is : (p id n : ℕ) (s : Sender) (store out : List ℕ) (at k m b : ℕ) → id < 3 → Ready p s (length store) → at + n * (p + 3) ≤ length out
+    → k ≡ 4096 → m ≡ length out - at → b ≡ id * 4096 → (r : Out) (y : List ℕ)
+    → r ≡ rowFor p id n (queueOf s id) (indexOf s id) (length (take k (drop b store))) (length (take m (drop at out)))
+    → y ≡ rowOut p id n (queueOf s id) (indexOf s id) (take k (drop b store)) (take m (drop at out))
+    → (r ≡ endOf p s id n) × (take at out ++ (y ++ drop m (drop at out)) ≡ written out at (rowAt p s store id n))
+unfolding rowAt
+row-at-is p id n s store out at k m b hid k0 room ek em eb r y er ey =
+    let g : take k (drop b store) ≡ partOf store id = ap (λ (x : ℕ). take x (drop b store)) ek ∙ ap (λ (x : ℕ). take 4096 (drop x store)) eb in
+    let l : length (partOf store id) ≡ 4096 = part-length store id hid (k0 .whole) in
+    let f = fine-queue p s id hid (fine-of p s (k0 .fine)) in
+    let i = f .1 in
+    row-into p id n (queueOf s id) (indexOf s id) (partOf store id) out at m (omega arith) em
+    (record { low = k0 .low; id-in = omega arith; index-in = omega arith; fine = f .0; part = l; fits-in = omega arith }) r y
+    (er ∙ ap (λ (x : List ℕ). rowFor p id n (queueOf s id) (indexOf s id) (length x) (length (take m (drop at out)))) g)
+    (ey ∙ ap (λ (x : List ℕ). rowOut p id n (queueOf s id) (indexOf s id) x (take m (drop at out))) g)
+
+-- ---- filler
+module _ (p i : ℕ) (region : List ℕ) (h : i < 8) where
+  null-steps : (n : ℕ) → steps p n (startOf noUnits i) ≡ startOf noUnits ((i + n) % 8)
+  unfolding steps stepped popped headLen
+  null-steps zero = let z : i ≡ (i + 0) % 8 = omega arith in ap (startOf noUnits) z
+  null-steps (suc n) = let z : ((i + n) % 8 + 1) % 8 ≡ (i + suc n) % 8 = omega arith in ap (stepped p) (null-steps n) ∙ ap (startOf noUnits) z
+
+  null-packet : (j : ℕ) → packetAt p 3 region (startOf noUnits j) ≡ encode p (packetOf true true 3 j [])
+  unfolding packetAt headLen
+  null-packet j = ap (λ (b : Bool). encode p (packetOf true b 3 j [])) (le-leb 0 p (omega arith))
+
+  pub null-outs : (n : ℕ) → outs p 3 region n (startOf noUnits i) ≡ nulls p i n
+  unfolding outs nulls
+  null-outs zero = refl
+  null-outs (suc n) =
+      ap (λ (l : List ℕ). l ++ packetAt p 3 region (steps p n (startOf noUnits i))) (null-outs n)
+      ∙ ap (λ (o : Out). nulls p i n ++ packetAt p 3 region o) (null-steps n)
+      ∙ ap (λ (l : List ℕ). nulls p i n ++ l) (null-packet ((i + n) % 8))
+
+pub filler-at-is : (p n : ℕ) (s : Sender) (store out : List ℕ) (at m : ℕ) (q : Queue) → Ready p s (length store) → at + n * (p + 3) ≤ length out → m ≡ length out - at
+    → q ≡ noUnits → (r : Out) (y : List ℕ)
+    → r ≡ rowFor p 3 n q (indexOf s 3) (length (take 4096 (drop 0 store))) (length (take m (drop at out)))
+    → y ≡ rowOut p 3 n q (indexOf s 3) (take 4096 (drop 0 store)) (take m (drop at out))
+    → (r .index ≡ (indexOf s 3 + n) % 8) × (take at out ++ (y ++ drop m (drop at out)) ≡ written out at (nulls p (indexOf s 3) n))
+filler-at-is p n s store out at m q k0 room em eq r y er ey =
+    let region = take 4096 (drop 0 store) in
+    let l : length region ≡ 4096 = part-length store 0 (lit< tt) (k0 .whole) in
+    let i = fine-of p s (k0 .fine) .i3 in
+    let h : indexOf s 3 < 8 = omega arith in
+    let k =
+    row-into p 3 n noUnits (indexOf s 3) region out at m (omega arith) em
+    (record { low = k0 .low; id-in = lit< tt; index-in = h; fine = sound-ok p noUnits (none-sound p); part = l; fits-in = omega arith }) r y
+    (er ∙ ap (λ (x : Queue). rowFor p 3 n x (indexOf s 3) (length region) (length (take m (drop at out)))) eq)
+    (ey ∙ ap (λ (x : Queue). rowOut p 3 n x (indexOf s 3) region (take m (drop at out))) eq) in
+    (ap (λ (o : Out). o .index) (k .0 ∙ null-steps p (indexOf s 3) region h n), k .1 ∙ ap (written out at) (null-outs p (indexOf s 3) region h n))
+
+-- ---- the rows one behind the other
+row-length : (p : ℕ) (s : Sender) (store : List ℕ) (id n : ℕ) → 1 ≤ p → length (rowAt p s store id n) ≡ n * (p + 3)
+unfolding rowAt
+row-length p s store id n h = outs-length p id (partOf store id) n (outOf s id) h
+
+pub rows-are : (p : ℕ) (s : Sender) (store : List ℕ) (n : Three) (filler : ℕ) (d d₁ d₂ d₃ d₄ : List ℕ) (e₀ e₁ e₂ : ℕ) → 1 ≤ p
+    → (total n + filler) * (p + 3) ≤ length d → e₀ ≡ n .a * (p + 3) → e₁ ≡ n .a * (p + 3) + n .b * (p + 3) → e₂ ≡ n .a * (p + 3) + n .b * (p + 3) + n .c * (p + 3)
+    → d₁ ≡ written d 0 (rowAt p s store 0 (n .a)) → d₂ ≡ written d₁ e₀ (rowAt p s store 1 (n .b)) → d₃ ≡ written d₂ e₁ (rowAt p s store 2 (n .c))
+    → d₄ ≡ written d₃ e₂ (nulls p (indexOf s 3) filler) → d₄ ≡ written d 0 (framePackets p s store n filler)
+unfolding framePackets
+rows-are p s store n filler d d₁ d₂ d₃ d₄ e₀ e₁ e₂ hp room q₀ q₁ q₂ w₁ w₂ w₃ w₄ =
+    let r₀ = rowAt p s store 0 (n .a) in
+    let r₁ = rowAt p s store 1 (n .b) in
+    let r₂ = rowAt p s store 2 (n .c) in
+    let r₃ = nulls p (indexOf s 3) filler in
+    let l₀ : length r₀ ≡ n .a * (p + 3) = row-length p s store 0 (n .a) hp in
+    let l₁ : length r₁ ≡ n .b * (p + 3) = row-length p s store 1 (n .b) hp in
+    let l₂ : length r₂ ≡ n .c * (p + 3) = row-length p s store 2 (n .c) hp in
+    let a₁ : length (r₀ ++ r₁) ≡ length r₀ + length r₁ = length-append r₀ r₁ in
+    let a₂ : length (r₀ ++ r₁ ++ r₂) ≡ length (r₀ ++ r₁) + length r₂ = length-append (r₀ ++ r₁) r₂ in
+    let x₂ : d₂ ≡ written d 0 (r₀ ++ r₁) = w₂ ∙ write-next d d₁ 0 r₀ r₁ e₀ (omega arith) (omega arith) w₁ in
+    let x₃ : d₃ ≡ written d 0 (r₀ ++ r₁ ++ r₂) = w₃ ∙ write-next d d₂ 0 (r₀ ++ r₁) r₂ e₁ (omega arith) (omega arith) x₂ in
+    w₄ ∙ write-next d d₃ 0 (r₀ ++ r₁ ++ r₂) r₃ e₂ (omega arith) (omega arith) x₃
+
+pub ends-are : (p : ℕ) (s : Sender) (n : Three) (filler : ℕ) (a b c : Out) (i : ℕ) → a ≡ endOf p s 0 (n .a) → b ≡ endOf p s 1 (n .b) → c ≡ endOf p s 2 (n .c)
+    → i ≡ (indexOf s 3 + filler) % 8 → _≡_ {A = Ends} (record { a = a; b = b; c = c; index = i }) (endsOf p s n filler)
+unfolding endsOf
+ends-are p s n filler a b c i ea eb ec ei = simp (ea, eb, ec, ei)
+
+-- ---- how far the writing of a queue gets
+steps-at : (p n : ℕ) (o : Out) → steps p n o .at ≤ o .at + n * p
+unfolding steps stepped
+steps-at p zero o = omega arith
+steps-at p (suc n) o = omega (arith, steps-at p n o, headLen-p p (steps p n o .q))
+
+-- ---- the refusals
+pub product-in : (g : Settings) (k : ℕ) → k ≡ settingsFor g → k ≡ 0 → g .n * (g .p + 3) ≤ 8190
+product-in g k ek hk = allowed g (sym ek ∙ hk) .room
+
+module _ (g : Settings) (s : Sender) (room size : ℕ) where
+  pub no-13 : (k : ℕ) → k ≡ settingsFor g → (k ≡ 0 → ⊥) → 13 ≡ refusedWith (frameTests g s room size)
+  unfolding frameTests
+  no-13 k e h = simp (← e, ne-eqb k 0 h)
+
+  module _ (k : ℕ) (ek : k ≡ settingsFor g) (hk : k ≡ 0) where
+    module _ (b : Bool) (eb : b ≡ brokenState (g .p) s) where
+      pub no-17 : b ≡ true → 17 ≡ refusedWith (frameTests g s room size)
+      unfolding frameTests
+      no-17 h = simp (← ek, eq-eqb k 0 hk, ← eb, h)
+
+      module _ (hb : b ≡ false) where
+        pub no-1 : (room ≡ 12288 → ⊥) → 1 ≡ refusedWith (frameTests g s room size)
+        unfolding frameTests
+        no-1 h = simp (← ek, eq-eqb k 0 hk, ← eb, hb, ne-eqb _ _ h)
+
+        module _ (hr : room ≡ 12288) where
+          pub no-1-late : size < g .n * (g .p + 3) → 1 ≡ refusedWith (frameTests g s room size)
+          unfolding frameTests
+          no-1-late h = simp (← ek, eq-eqb k 0 hk, ← eb, hb, eq-eqb _ _ hr, lt-ltb _ _ h)
+
+          pub no-0 : g .n * (g .p + 3) ≤ size → 0 ≡ refusedWith (frameTests g s room size)
+          unfolding frameTests
+          no-0 h = simp (← ek, eq-eqb k 0 hk, ← eb, hb, eq-eqb _ _ hr, le-ltb _ _ h)
+
+  pub fit-of : refusedWith (frameTests g s room size) ≡ 0 → spec.Fit g s room size
+  unfolding frameTests
+  fit-of e =
+      let t = free (frameTests g s room size) (lit< tt, (lit< tt, (lit< tt, (lit< tt, tt)))) e in
+      record {
+        allowed-in = eqb-true (settingsFor g) 0 (not-false (eqb (settingsFor g) 0) (t .0));
+        fine = t .1 .0;
+        whole = eqb-true room 12288 (not-false (eqb room 12288) (t .1 .1 .0));
+        fits = ltb-false size (g .n * (g .p + 3)) (t .1 .1 .1 .0);
+      }
+
+  pub fit-back-of : spec.Fit g s room size → refusedWith (frameTests g s room size) ≡ 0
+  unfolding frameTests
+  fit-back-of f =
+      accepted (frameTests g s room size)
+      (ap not (eq-eqb (settingsFor g) 0 (f .allowed-in)), (f .fine, (ap not (eq-eqb room 12288 (f .whole)), (le-ltb size (g .n * (g .p + 3)) (f .fits), tt))))
+
+-- ---- where the checks have passed
+module _ (g : Settings) (s : Sender) (room size : ℕ) (f : spec.Fit g s room size) where
+  settings : Allowed g
+  settings = allowed g (f .allowed-in)
+
+  pub p-in : g .p ≤ 255
+  p-in = settings .high
+
+  pub ready : (p : ℕ) → p ≡ g .p → Ready p s room
+  ready p e = subst (λ (x : ℕ). Ready x s room) (sym e) (record { low = settings .low; fine = f .fine; whole = f .whole })
+
+  module _ (p : ℕ) (ep : p ≡ g .p) (w : Three) (ew : w ≡ waitingOf p s) (h : Handed) (eh : h ≡ handFor g w (s .turn)) where
+    pub hand-here : h ≡ handOf g s
+    unfolding handOf
+    hand-here = eh ∙ ap (λ (x : Three). handFor g x (s .turn)) (ew ∙ ap (λ (k : ℕ). waitingOf k s) ep)
+
+    sum-here : total (h .packets) + h .filler ≡ g .n
+    sum-here = ap (λ (x : Handed). total (x .packets) + x .filler) eh ∙ hand-total g w (s .turn) settings
+
+    pub rows-in : (total (h .packets) + h .filler) * (p + 3) ≤ size
+    rows-in = let k = f .fits in rw (ep, sum-here) k
+
+    pub ends-in : (e : Ends) → e ≡ endsOf p s (h .packets) (h .filler) → (e .a .at ≤ 8190) × (e .b .at ≤ 8190) × (e .c .at ≤ 8190)
+    unfolding endsOf
+    ends-in e ee =
+        let r = settings .room in
+        let N = g .n in
+        let a : h .packets .a ≤ N = let q = sum-here in omega arith in
+        let b : h .packets .b ≤ N = let q = sum-here in omega arith in
+        let c : h .packets .c ≤ N = let q = sum-here in omega arith in
+        rw (ee, ep) (
+          omega (arith, steps-at (g .p) (h .packets .a) (outOf s 0), mul-le-mul-right (g .p) a),
+          omega (arith, steps-at (g .p) (h .packets .b) (outOf s 1), mul-le-mul-right (g .p) b),
+          omega (arith, steps-at (g .p) (h .packets .c) (outOf s 2), mul-le-mul-right (g .p) c),
+        )
+
+    pub framed-is : (e : Ends) → e ≡ endsOf p s (h .packets) (h .filler) → (r : Sender) → r ≡ nextFrom e (h .turn)
+        → _≡_ {A = Framed} (record { number = 0; next = r; packets = h .packets; spares = h .spares; filler = h .filler }) (framed g s)
+    unfolding framed
+    framed-is e ee r er =
+        simp (er, ee, ep, ← hand-here)
+
+    pub closed-is : (store d : List ℕ) (e : Ends) → e ≡ endsOf p s (h .packets) (h .filler) → d ≡ closed (closed (closed store 0 (e .a)) 1 (e .b)) 2 (e .c)
+        → d ≡ closedAll (g .p) s (handOf g s .packets) store
+    unfolding closedAll endsOf
+    closed-is store d e ee ed =
+        ed
+        ∙ ap (λ (x : Ends). closed (closed (closed store 0 (x .a)) 1 (x .b)) 2 (x .c)) ee
+        ∙ ap (λ (k : ℕ). closed (closed (closed store 0 (endOf k s 0 (h .packets .a))) 1 (endOf k s 1 (h .packets .b))) 2 (endOf k s 2 (h .packets .c))) ep
+        ∙ ap (λ (x : Handed). closed (closed (closed store 0 (endOf (g .p) s 0 (x .packets .a))) 1 (endOf (g .p) s 1 (x .packets .b))) 2 (endOf (g .p) s 2 (x .packets .c))) hand-here
+
+    pub bytes-are : (store out d : List ℕ) → d ≡ written out 0 (framePackets p s store (h .packets) (h .filler)) → d ≡ written out 0 (frameBytes g s store)
+    unfolding frameBytes
+    bytes-are store out d ed =
+        ed
+        ∙ ap (λ (k : ℕ). written out 0 (framePackets k s store (h .packets) (h .filler))) ep
+        ∙ ap (λ (x : Handed). written out 0 (framePackets (g .p) s store (x .packets) (x .filler))) hand-here
+
+-- ---- the call
+module _ (g : Settings) (s : Sender) (store out : List ℕ) (k : ℕ) (e : k ≡ refusedWith (frameTests g s (length store) (length out))) where
+  pub frame-refused : (k ≡ 0 → ⊥)
+      → (_≡_ {A = Framed} (record { number = k; next = s; packets = noThree; spares = 0; filler = 0 }) (frameFor g s store out))
+      × ((store ≡ storeAfter g s store out) × (out ≡ outFor g s store out))
+  unfolding frameFor storeAfter outFor frameNumber
+  frame-refused h = (simp (← e, ne-eqb k 0 h), (simp (← e, ne-eqb k 0 h), simp (← e, ne-eqb k 0 h)))
+
+  pub frame-fit : k ≡ 0 → spec.Fit g s (length store) (length out)
+  frame-fit z = fit-of g s (length store) (length out) (sym e ∙ z)
+
+  pub frame-done : k ≡ 0 → (r : Framed) (d f : List ℕ) → r ≡ framed g s → d ≡ closedAll (g .p) s (handOf g s .packets) store → f ≡ written out 0 (frameBytes g s store)
+      → (r ≡ frameFor g s store out) × ((d ≡ storeAfter g s store out) × (f ≡ outFor g s store out))
+  unfolding frameFor storeAfter outFor frameNumber
+  frame-done z r d f er ed ef = (simp (← e, z) er, (simp (← e, z) ed, simp (← e, z) ef))
+
+-- ---- the store
+pub close-is : (store d : List ℕ) (id u : ℕ) (o : Out) → u ≡ unsent (o .q) → d ≡ pulled store (id * 4096) (id * 4096 + o .at) u → d ≡ closed store id o
+unfolding closed
+close-is store d id u o eu ed = ed ∙ ap (pulled store (id * 4096) (id * 4096 + o .at)) eu
+
+pub three-closed : (d d₁ d₂ d₃ : List ℕ) (e : Ends) → d₁ ≡ closed d 0 (e .a) → d₂ ≡ closed d₁ 1 (e .b) → d₃ ≡ closed d₂ 2 (e .c)
+    → d₃ ≡ closed (closed (closed d 0 (e .a)) 1 (e .b)) 2 (e .c)
+three-closed d d₁ d₂ d₃ e w₁ w₂ w₃ = w₃ ∙ ap (λ (x : List ℕ). closed x 2 (e .c)) (w₂ ∙ ap (λ (x : List ℕ). closed x 1 (e .b)) w₁)
