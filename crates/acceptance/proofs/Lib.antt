@@ -1,3 +1,5 @@
+pub mod Examples
+pub mod Rejected
 pub mod Unique
 pub mod UniqueFrame
 pub mod UniqueSteps

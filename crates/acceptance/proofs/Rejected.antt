@@ -1,0 +1,135 @@
+-- No function that meets the promise of its call is one of the wrong programs that 01 lists: each is refuted by one input. Assumes nothing.
+use Prim.Native.Nat.{ℕ}
+use mathlib.Core.Path.{_≡_, refl, sym, ap, _∙_}
+use mathlib.Core.List.{List, [], _∷_}
+use native.Mathlib.Omega.{arith}
+use lib.ListN.{getD, replicate}
+use Rattle.laws.specs.Big.{bytesOf}
+use Rattle.laws.specs.Written.{written}
+use Rattle.dispersal.specs.Dispersal as dispersal
+use Rattle.hand.specs.Hand.{give, free, giveFirst, giveOne, spread, handOut, planFor, handFor}
+use Rattle.hand.specs.Settings.{unfit, settingsTests, settingsFor}
+use Rattle.hand.specs.declared.Settings.{Settings}
+use Rattle.hand.specs.declared.Three.{Three}
+use Rattle.queue.specs.Queue.{addUp, packets, unsent, waiting, lengths, anyEmpty, anyOver, broken, noUnits, pushed}
+use Rattle.moves.specs.Moves.{pulled}
+use Rattle.packet.specs.Packet.{headOf, padded, dataOf, plainOf, sealed, encode, bodyOf, decode}
+use Rattle.row.specs.Row.{headLen, dropFirst, popped, packetAt, stepped, steps, outs}
+use Rattle.sender.specs.declared.Sender.{Sender}
+use Rattle.sender.specs.declared.Framed.{Framed}
+use Rattle.sender.specs.declared.Loaded.{Loaded}
+use Rattle.sender.specs.State.{queueOf, fresh, brokenState, putQueue, waitingOf}
+use Rattle.sender.specs.Frame as frames
+use Rattle.sender.specs.Load as loads
+use Rattle.acceptance.specs.Wrong.{Disperser, Disperses, Copies, Loader, Loads, TakesNone, Framer, Frames, firstId, OnlyFiller, again, ThenFiller, ThenRefuses, Invents}
+
+-- a zero byte becomes 07
+abbrev zero : List ℕ
+zero = 0 ∷ []
+
+pub no-copier : (f : Disperser) → Disperses f → Copies f → ⊥
+unfolding dispersal.outputFor dispersal.numberFor dispersal.testsFor dispersal.dispersed dispersal.dispersedFrom dispersal.next dispersal.push written
+no-copier f meets copies =
+    let same : _≡_ {A = ℕ} 0x07 0 = ap (λ (s : List ℕ). getD s 0 0) (sym (meets zero zero .1) ∙ copies zero zero (meets zero zero .0)) in
+    omega arith
+
+-- ---- one data byte a packet, one packet a frame, all of it queue 0's
+abbrev three : ℕ → ℕ → ℕ → Three
+three a b c = record { a = a; b = b; c = c }
+
+abbrev small : Settings
+small = record { p = 1; n = 1; share = three 1 0 0; ceiling = three 1 1 1 }
+
+abbrev store : List ℕ
+store = replicate 12288 0
+
+-- a unit of two bytes is taken by a fresh sender
+abbrev unit : List ℕ
+unit = 1 ∷ 2 ∷ []
+
+pub no-refuser : (f : Loader) → Loads f → TakesNone f → ⊥
+unfolding loads.loadFor loads.loadNumber loads.loadTests loads.loaded loads.full settingsFor settingsTests unfit brokenState broken fresh putQueue pushed
+    anyEmpty anyOver lengths unsent addUp
+no-refuser f meets none =
+    let same : _≡_ {A = ℕ} 1 0
+    = ap (λ (s : Sender). queueOf s 0 .count) (sym (ap (λ (l : Loaded). l .next) (meets small fresh 0 unit store .0)) ∙ none small fresh 0 unit store) in
+    omega arith
+
+-- ---- a sender whose queue 0 has that unit, two packets long
+abbrev busy : Sender
+busy = record { q = record { left = 2 ∷ replicate 7 0; count = 1; sent = 0 } ∷ noUnits ∷ noUnits ∷ []; turn = 0; index = replicate 4 0 }
+
+abbrev frame : List ℕ
+frame = replicate 4 0
+
+-- its first two frames and the first of a fresh sender, by computation
+abbrev left : Sender
+left = frames.frameFor small busy store frame .next
+
+abbrev left-store : List ℕ
+left-store = frames.storeAfter small busy store frame
+
+abbrev left-frame : List ℕ
+left-frame = frames.outFor small busy store frame
+
+two-frames : (frames.frameFor small busy store frame .number ≡ 0) × (firstId 1 left-frame ≡ 0)
+    × (frames.frameFor small left left-store left-frame .number ≡ 0) × (firstId 1 (frames.outFor small left left-store left-frame) ≡ 0)
+    × (frames.frameFor small busy store frame .packets .a ≡ 1)
+    × (frames.frameFor small fresh store frame .number ≡ 0) × (frames.frameFor small fresh store frame .packets .a ≡ 0)
+unfolding frames.frameFor frames.frameNumber frames.frameTests frames.framed frames.outFor frames.frameBytes frames.framePackets frames.rowAt frames.nulls
+    frames.handOf frames.endsOf frames.nextFrom frames.storeAfter frames.closedAll frames.closed pulled fresh
+    settingsFor settingsTests unfit brokenState broken anyEmpty anyOver lengths unsent addUp waitingOf waiting packets
+    give free giveFirst giveOne spread handOut planFor handFor written steps outs stepped packetAt headLen popped dropFirst
+    encode plainOf headOf dataOf sealed bytesOf decode
+two-frames = (refl, refl, refl, refl, refl, refl, refl)
+
+module _ (f : Framer) (meets : Frames f) where
+  answer : (s : Sender) → f small s store frame .0 ≡ frames.frameFor small s store frame
+  answer s = meets small s store frame .0
+
+  served : f small busy store frame .0 .number ≡ 0
+  served = ap (λ (a : Framed). a .number) (answer busy) ∙ two-frames .0
+
+  -- the next frame, handed what this one left
+  next-answer : again f small busy store frame .0 ≡ frames.frameFor small left left-store left-frame
+  next-answer =
+      let m = meets small busy store frame in
+      let a = m .0 in
+      let b = m .1 in
+      let c = m .2 in
+      let n = meets small (f small busy store frame .0 .next) (f small busy store frame .1) (f small busy store frame .2) .0 in
+      cc
+
+  next-output : again f small busy store frame .2 ≡ frames.outFor small left left-store left-frame
+  next-output =
+      let m = meets small busy store frame in
+      let a = m .0 in
+      let b = m .1 in
+      let c = m .2 in
+      let n = meets small (f small busy store frame .0 .next) (f small busy store frame .1) (f small busy store frame .2) .2 in
+      cc
+
+  -- queue 0 gets its share of the first frame
+  pub no-filler : OnlyFiller f → ⊥
+  no-filler only =
+      let same : _≡_ {A = ℕ} 0 3 = sym (two-frames .1) ∙ ap (firstId 1) (sym (meets small busy store frame .2)) ∙ only small busy store frame served in
+      omega arith
+
+  -- and of the second
+  pub no-filler-after : ThenFiller f → ⊥
+  no-filler-after then =
+      let same : _≡_ {A = ℕ} 0 3 = sym (two-frames .3) ∙ ap (firstId 1) (sym next-output) ∙ then small busy store frame served in
+      omega arith
+
+  pub no-refusal-after : ThenRefuses f → ⊥
+  no-refusal-after then = then small busy store frame served (ap (λ (a : Framed). a .number) next-answer ∙ two-frames .2)
+
+  -- a fresh sender sends none of queue 0, this one sends one
+  pub no-invention : Invents f → ⊥
+  no-invention invents =
+      let none = ap (λ (a : Framed). a .number) (answer fresh) ∙ two-frames .5 in
+      let same : _≡_ {A = ℕ} 0 1
+      = sym (two-frames .6) ∙ ap (λ (a : Framed). a .packets .a) (sym (answer fresh))
+      ∙ ap (λ (t : Three). t .a) (invents small fresh busy store frame none served)
+      ∙ ap (λ (a : Framed). a .packets .a) (answer busy) ∙ two-frames .4 in
+      omega arith

@@ -1,0 +1,72 @@
+-- The wrong programs that 01 lists ("Acceptance of the promises"), each as a condition on a function from what a call is handed to its answer
+-- and the lent memory after it; and what it is for such a function to meet the promise of the call. Assumes nothing.
+use Prim.Native.Nat.{ℕ, _+_}
+use mathlib.Core.Path.{_≡_}
+use mathlib.Core.List.{List}
+use lib.ListN.{take}
+use Rattle.laws.specs.Written.{written}
+use Rattle.dispersal.specs.Dispersal as dispersal
+use Rattle.hand.specs.declared.Settings.{Settings}
+use Rattle.packet.specs.Packet.{decode}
+use Rattle.sender.specs.declared.Framed.{Framed}
+use Rattle.sender.specs.declared.Loaded.{Loaded}
+use Rattle.sender.specs.declared.Sender.{Sender}
+use Rattle.sender.specs.Frame as frames
+use Rattle.sender.specs.Load as loads
+
+-- ---- dispersal: input and output before it; number and output after it
+abbrev pub Disperser : Type 0
+Disperser = List ℕ → List ℕ → ℕ × List ℕ
+
+abbrev pub Disperses : Disperser → Type 0
+Disperses f = (input output : List ℕ) → (f input output .0 ≡ dispersal.numberFor input output) × (f input output .1 ≡ dispersal.outputFor input output)
+
+-- dispersal that copies
+abbrev pub Copies : Disperser → Type 0
+Copies f = (input output : List ℕ) → f input output .0 ≡ 0 → f input output .1 ≡ written output 0 input
+
+-- ---- loading: settings, state, id, unit, store before it; answer and store after it
+abbrev pub Loader : Type 0
+Loader = Settings → Sender → ℕ → List ℕ → List ℕ → Loaded × List ℕ
+
+abbrev pub Loads : Loader → Type 0
+Loads f = (g : Settings) (s : Sender) (id : ℕ) (unit store : List ℕ) →
+    (f g s id unit store .0 ≡ loads.loadFor g s id unit store) × (f g s id unit store .1 ≡ loads.storeFor g s id unit store)
+
+-- a loader that takes no unit
+abbrev pub TakesNone : Loader → Type 0
+TakesNone f = (g : Settings) (s : Sender) (id : ℕ) (unit store : List ℕ) → f g s id unit store .0 .next ≡ s
+
+-- ---- a frame: settings, state, store and output before it; answer, store and output after it
+abbrev pub Framer : Type 0
+Framer = Settings → Sender → List ℕ → List ℕ → Framed × List ℕ × List ℕ
+
+abbrev pub Frames : Framer → Type 0
+Frames f = (g : Settings) (s : Sender) (store out : List ℕ) →
+    (f g s store out .0 ≡ frames.frameFor g s store out) × (f g s store out .1 ≡ frames.storeAfter g s store out)
+    × (f g s store out .2 ≡ frames.outFor g s store out)
+
+-- the id of a frame's first packet: filler comes last, so a frame that begins with id 3 holds nothing else
+abbrev pub firstId : ℕ → List ℕ → ℕ
+firstId p frame = decode p (take (p + 3) frame) .id
+
+-- a sender of nothing but filler
+abbrev pub OnlyFiller : Framer → Type 0
+OnlyFiller f = (g : Settings) (s : Sender) (store out : List ℕ) → f g s store out .0 .number ≡ 0 → firstId (g .p) (f g s store out .2) ≡ 3
+
+-- what the next call gives, handed the state, the store and the output that this one left
+abbrev pub again : Framer → Settings → Sender → List ℕ → List ℕ → Framed × List ℕ × List ℕ
+again f g s store out = f g (f g s store out .0 .next) (f g s store out .1) (f g s store out .2)
+
+-- one that serves its first frame and sends filler after
+abbrev pub ThenFiller : Framer → Type 0
+ThenFiller f = (g : Settings) (s : Sender) (store out : List ℕ) → f g s store out .0 .number ≡ 0 → firstId (g .p) (again f g s store out .2) ≡ 3
+
+-- one that serves its first frame and refuses after
+abbrev pub ThenRefuses : Framer → Type 0
+ThenRefuses f = (g : Settings) (s : Sender) (store out : List ℕ) → f g s store out .0 .number ≡ 0 → again f g s store out .0 .number ≡ 0 → ⊥
+
+-- packet counts invented: the same ones whatever was sent
+abbrev pub Invents : Framer → Type 0
+Invents f = (g : Settings) (s t : Sender) (store out : List ℕ) → f g s store out .0 .number ≡ 0 → f g t store out .0 .number ≡ 0
+    → f g s store out .0 .packets ≡ f g t store out .0 .packets
