@@ -7,6 +7,7 @@ ghost use Rattle.hand.specs.Settings.{at, total, unfit, settingsFor};
 ghost use Rattle.hand.specs.Hand.{low, bump, free, give, giveOne, spread, handOut, handFor};
 
 // One number for each queue, by its id: 0, 1, 2.
+#[repr(C)]
 pub struct Three {
     pub a: usize,
     pub b: usize,
@@ -14,6 +15,7 @@ pub struct Three {
 }
 
 // p data bytes a packet, n packets a frame, and a share and a ceiling for each queue.
+#[repr(C)]
 pub struct Settings {
     pub p: usize,
     pub n: usize,

@@ -4,6 +4,7 @@ ghost use Prim.Native.Nat.{_%_, _≤_, min};
 ghost use Rattle.queue.specs.Queue.{packets, units, unsent, waiting, anyEmpty, broken, noUnits, pushed};
 
 // Up to eight units that are not finished, in the order of loading: the bytes left of each, and how many bytes of the first are sent.
+#[repr(C)]
 pub struct Queue {
     pub left: [u16; 8],
     pub count: usize,

@@ -15,6 +15,7 @@ ghost use Rattle.sender.specs.Load.{full, loadTests, loadFor, storeFor, 
 ghost use Rattle.sender.specs.Frame.{Ready, Fit, endOf, endsOf, nextFrom, rowAt, nulls, framePackets, closed, closedAll, frameTests, handOf, framed, frameBytes, frameFor, storeAfter, outFor};
 
 // The three queues, whose turn it is to get a spare, and the next continuity index of each id, filler last.
+#[repr(C)]
 pub struct Sender {
     pub q: [Queue; 3],
     pub turn: usize,
@@ -22,12 +23,14 @@ pub struct Sender {
 }
 
 // The number, and the state after the call.
+#[repr(C)]
 pub struct Loaded {
     pub number: u32,
     pub next: Sender,
 }
 
 // The number, the state after the call, and what the frame holds: packets of each queue, spares among them, filler.
+#[repr(C)]
 pub struct Framed {
     pub number: u32,
     pub next: Sender,
