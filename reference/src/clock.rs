@@ -79,6 +79,28 @@ pub fn follows(first: &Timestamp, second: &Timestamp) -> Result<bool, Refusal> {
     Ok(next(first) == Ok(*second))
 }
 
+/// What of a packet matters for its place among others.
+#[derive(Debug, Clone, Copy, Default, PartialEq, Eq)]
+pub struct Moment {
+    /// The logical frame count.
+    pub count: u32,
+    pub timestamp: Option<Timestamp>,
+}
+
+/// Whether the second packet follows the first: by the counts, the one after FFFFFFFF being 0, and where both
+/// have a timestamp by these as well.
+pub fn packet_follows(first: &Moment, second: &Moment) -> Result<bool, Refusal> {
+    for timestamp in [first.timestamp, second.timestamp].iter().flatten() {
+        timestamp.check()?;
+    }
+    let counts = u64::from(second.count) == (u64::from(first.count) + 1) % (1 << 32);
+    let timestamps = match (&first.timestamp, &second.timestamp) {
+        (Some(first), Some(second)) => follows(first, second)?,
+        _ => true,
+    };
+    Ok(counts && timestamps)
+}
+
 #[cfg(test)]
 mod tests {
     use super::*;
@@ -170,6 +192,41 @@ mod tests {
         let last = stamp(0, LAST_SECOND, 600);
         for second in [stamp(0, 0, 0), last, stamp(0, LAST_SECOND, 0)] {
             assert_eq!(follows(&last, &second), Ok(false));
+        }
+    }
+
+    fn at(count: u32, timestamp: Option<Timestamp>) -> Moment {
+        Moment { count, timestamp }
+    }
+
+    #[test]
+    fn packets_following() {
+        let (now, then) = (stamp(3, 9, 700), stamp(3, 10, 100));
+        let last = stamp(0, LAST_SECOND, 600);
+        for count in [0, 7, u32::MAX - 1, u32::MAX] {
+            let next = count.wrapping_add(1);
+            for (first, second, follows) in [
+                (None, None, true),
+                (Some(now), None, true),
+                (None, Some(now), true),
+                (Some(now), Some(then), true),
+                (Some(now), Some(now), false),
+                (Some(then), Some(now), false),
+                (Some(now), Some(stamp(4, 10, 100)), false),
+                (Some(last), Some(stamp(0, 0, 0)), false),
+                (Some(last), None, true),
+            ] {
+                let first = at(count, first);
+                assert_eq!(packet_follows(&first, &at(next, second)), Ok(follows));
+                for other in [count, next.wrapping_add(1), count.wrapping_sub(1)] {
+                    assert_eq!(packet_follows(&first, &at(other, second)), Ok(false));
+                }
+            }
+            let wrong = at(count, Some(stamp(0, 0, 1_000)));
+            for other in [at(next, None), at(next, Some(now)), at(9, None)] {
+                assert_eq!(packet_follows(&wrong, &other), refused(6));
+                assert_eq!(packet_follows(&other, &wrong), refused(6));
+            }
         }
     }
 }

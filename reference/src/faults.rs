@@ -1,4 +1,4 @@
-//! Good arguments spoiled in one, two and three ways, so that the order of the refusals shows (document
+//! Good arguments spoiled in one to four ways, so that the order of the refusals shows (document
 //! 01, "Numbers given back": which number wins).
 
 use crate::random::Random;
@@ -30,6 +30,19 @@ pub fn some<T: Clone>(good: T, faults: &[Fault<T>], random: &mut Random) -> T {
         _ => 3,
     };
     let chosen: Vec<usize> = (0..count).map(|_| draw(faults, random)).collect();
+    spoiled(&good, faults, &chosen, random)
+}
+
+/// The arguments with one, two, three or four faults drawn, all of them different.
+pub fn several<T: Clone>(good: T, faults: &[Fault<T>], random: &mut Random) -> T {
+    let count = (1 + random.below(4) as usize).min(faults.len());
+    let mut chosen: Vec<usize> = Vec::new();
+    while chosen.len() < count {
+        let place = draw(faults, random);
+        if !chosen.contains(&place) {
+            chosen.push(place);
+        }
+    }
     spoiled(&good, faults, &chosen, random)
 }
 
@@ -70,6 +83,23 @@ mod tests {
         }
         assert!(list.iter().all(|faults| faults.is_sorted()));
         assert!(list.iter().any(|faults| faults.len() == 3));
+    }
+
+    #[test]
+    fn one_to_four_at_random() {
+        let mut random = Random::new(3);
+        let lists: Vec<Vec<u8>> = (0..200)
+            .map(|_| several(vec![], &FAULTS, &mut random))
+            .collect();
+        for count in 1..5 {
+            assert!(lists.iter().any(|list| list.len() == count));
+        }
+        for list in lists {
+            let mut different = list.clone();
+            different.dedup();
+            assert!(list.is_sorted() && different == list && !list.is_empty());
+        }
+        assert_eq!(several(vec![], &FAULTS[..1], &mut random), [0]);
     }
 
     #[test]

@@ -6,6 +6,7 @@ use crate::clock::Timestamp;
 use crate::description::Description;
 use crate::fac::{self, Fac};
 use crate::reader::Reader;
+use crate::receiver::Receiver;
 use crate::sender::{Sender, Settings};
 use crate::show;
 
@@ -73,6 +74,16 @@ pub trait Fields {
         self.number("turn", &mut field.turn)?;
         for index in &mut field.indexes {
             self.byte("index", index)?;
+        }
+        Some(())
+    }
+
+    fn receiver(&mut self, field: &mut Receiver) -> Option<()> {
+        for link in &mut field.links {
+            self.byte("heard", &mut link.heard)?;
+            self.byte("index", &mut link.index)?;
+            self.byte("open", &mut link.open)?;
+            self.short("length", &mut link.length)?;
         }
         Some(())
     }
@@ -245,6 +256,16 @@ impl Fields for Vec<String> {
         }
         let (turn, indexes) = (field.turn, field.indexes);
         self.push(format!("turn {turn}, indexes {indexes:?}"));
+        Some(())
+    }
+
+    fn receiver(&mut self, field: &mut Receiver) -> Option<()> {
+        for (id, link) in field.links.iter().enumerate() {
+            let (heard, index, open, length) = (link.heard, link.index, link.open, link.length);
+            self.push(format!(
+                "id {id}: heard {heard}, next index {index}, open {open}, length {length}"
+            ));
+        }
         Some(())
     }
 }

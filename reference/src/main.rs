@@ -28,6 +28,7 @@ mod output;
 mod packet;
 mod random;
 mod reader;
+mod receiver;
 mod recording;
 mod refusal;
 mod sender;

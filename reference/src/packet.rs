@@ -30,7 +30,7 @@ pub struct Packet {
     pub useful: Vec<u8>,
 }
 
-fn check_p(p: u64) -> Result<(), Refusal> {
+pub fn check_p(p: u64) -> Result<(), Refusal> {
     refuse(13, !(1..=LARGEST_P).contains(&p))
 }
 

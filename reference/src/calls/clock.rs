@@ -56,7 +56,7 @@ pub const FOLLOWS: Call = Call {
 };
 
 /// The last second that has 40 bits.
-const LAST: u64 = (1 << 40) - 1;
+pub const LAST: u64 = (1 << 40) - 1;
 
 #[derive(Default, Clone)]
 struct Write {
@@ -156,7 +156,7 @@ fn limits() -> Vec<Timestamp> {
 }
 
 /// Mostly good, in every part of its ranges.
-fn timestamp(random: &mut Random) -> Timestamp {
+pub fn timestamp(random: &mut Random) -> Timestamp {
     let seconds = match random.below(20) {
         0 => random.draw(),
         1 => random.pick(&SECONDS),
@@ -264,7 +264,7 @@ fn random_read(random: &mut Random) -> Vec<u8> {
 }
 
 /// The one that is 400 ms later, worked out without a look at any range.
-fn later(timestamp: Timestamp) -> Timestamp {
+pub fn later(timestamp: Timestamp) -> Timestamp {
     let milliseconds = timestamp.milliseconds.wrapping_add(400);
     if milliseconds < 1_000 {
         return Timestamp {
@@ -280,7 +280,7 @@ fn later(timestamp: Timestamp) -> Timestamp {
 }
 
 /// Second timestamps that follow the first, or nearly do.
-fn seconds_of(first: Timestamp) -> Vec<Timestamp> {
+pub fn seconds_of(first: Timestamp) -> Vec<Timestamp> {
     let later = later(first);
     let mut list = vec![first, later, Timestamp::default()];
     let mut with = |change: fn(&mut Timestamp)| {

@@ -145,7 +145,8 @@ const READ_FAULTS: &[Fault<Vec<u8>>] = &[
 ];
 
 fn fixed_reads(random: &mut Random) -> Vec<Vec<u8>> {
-    let mut list = Vec::new();
+    // The worked one.
+    let mut list = vec![vec![0x06, 0x0A, 0x0E, 0x1C, 0x23, 0x80, 0xA0, 0x80, 0x5B]];
     for fac in each_value() {
         if !fac.has_too_large_a_field() {
             list.push(fac.value());

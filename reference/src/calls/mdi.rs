@@ -3,7 +3,9 @@
 
 use super::described::{self, over, Described, SERVED};
 use super::fac::{random_fac, too_large, unserved};
-use super::mdi_drafts::{self, random_draft, random_timestamp, v0, Draft};
+use super::mdi_drafts::{
+    self, described_draft, full_draft, random_draft, random_fill, random_timestamp, v0, Draft,
+};
 use super::Call;
 use crate::answer::Answer;
 use crate::buffer::Buffer;
@@ -248,18 +250,28 @@ fn most_items() -> Vec<u8> {
         .collect()
 }
 
-/// The table of runs, the worked packet cut at each byte, and spoiled in one, two and three ways.
+/// The table of runs, the worked packet and one with every item cut at each byte, both spoiled in one, two
+/// and three ways, every item in turn, every order, and the limits of streams and packets.
 fn fixed_packets(random: &mut Random) -> Vec<Buffer> {
     let runs = mdi_drafts::table();
     let mut list: Vec<Buffer> = runs.iter().map(|(_, draft, _, _)| given(draft)).collect();
-    let whole = v0().bytes();
-    for end in 0..whole.len() {
-        list.push(Buffer::Given(whole[..end].to_vec()));
+    let full = full_draft(random);
+    for whole in [v0().bytes(), full.bytes()] {
+        for end in 0..=whole.len() {
+            list.push(Buffer::Given(whole[..end].to_vec()));
+        }
     }
-    for draft in [v0(), random_draft(random)] {
+    for draft in [v0(), full] {
         let spoiled = faults::all(&draft, mdi_drafts::FAULTS, random);
         list.extend(spoiled.iter().map(given));
     }
+    list.extend(mdi_drafts::each_item().iter().map(given));
+    list.extend(mdi_drafts::other_orders().iter().map(given));
+    for description in described::limits() {
+        let mode = random.pick(&SERVED);
+        list.push(given(&described_draft(random, mode, &description)));
+    }
+    list.extend(mdi_drafts::longest_drafts(random).iter().map(given));
     for length in [0, 7, 8, 103, LONGEST_INPUT, LONGEST_INPUT + 1, 131_072] {
         list.push(generate::compact(random, length));
     }
@@ -272,21 +284,31 @@ fn fixed_reads(random: &mut Random) -> Vec<Vec<u8>> {
     bodies(list)
 }
 
-/// Mostly good, or spoiled in up to four ways, or bytes of any kind in a length that is too long.
+/// Often good, or spoiled in one to four ways, cut, with a bit flipped, or at the longest length.
 fn random_packet(random: &mut Random) -> Buffer {
-    if random.one_in(60) {
-        let length = LONGEST_INPUT + random.below(3) as usize;
-        return generate::compact(random, length);
+    match random.below(240) {
+        0 | 1 => {
+            let length = LONGEST_INPUT + random.below(3) as usize;
+            return generate::compact(random, length);
+        }
+        2 => {
+            let length = LONGEST_INPUT - 1 + random.below(3) as usize;
+            return given(&random_fill(random, length));
+        }
+        _ => {}
     }
     let mut draft = random_draft(random);
-    draft = faults::some(draft, mdi_drafts::FAULTS, random);
-    if random.one_in(8) {
-        let fault = random.pick(mdi_drafts::FAULTS);
-        fault(&mut draft, random);
+    if !random.one_in(3) {
+        draft = faults::several(draft, mdi_drafts::FAULTS, random);
     }
     let mut packet = draft.bytes();
-    if random.one_in(20) {
-        packet.truncate(random.below(packet.len() as u64 + 1) as usize);
+    match random.below(20) {
+        0 => packet.truncate(random.below(packet.len() as u64 + 1) as usize),
+        1 if !packet.is_empty() => {
+            let bit = random.below(8 * packet.len() as u64) as usize;
+            packet[bit / 8] ^= 0x80 >> (bit % 8);
+        }
+        _ => {}
     }
     Buffer::Given(packet)
 }
@@ -294,7 +316,7 @@ fn random_packet(random: &mut Random) -> Buffer {
 fn fixed_streams(random: &mut Random) -> Vec<Vec<u8>> {
     let mut list = Vec::new();
     for number in [0, 1, 2, 3, 4, 5, 256, 1 << 32, 1 << 63, u64::MAX] {
-        for draft in [v0(), random_draft(random)] {
+        for draft in [v0(), full_draft(random), random_draft(random)] {
             let packet = given(&draft);
             list.push(Stream { number, packet });
         }

@@ -70,6 +70,16 @@ impl Draft {
         self
     }
 
+    /// With one more empty item at the end.
+    fn grown(mut self, name: &Name) -> Draft {
+        self.items.push(Part {
+            name: *name,
+            bits: 0,
+            value: Vec::new(),
+        });
+        self
+    }
+
     fn without(mut self, name: &Name) -> Draft {
         self.items.retain(|item| item.name != *name);
         self
@@ -308,29 +318,8 @@ pub fn random_draft(random: &mut Random) -> Draft {
         13..=80 => 60,
         _ => 8,
     };
-    let fac = Fac {
-        msc_mode: mode,
-        ..random_fac(random)
-    };
     let description = described::well_formed(random, mode, longest);
-    let mut draft = Draft::default()
-        .plus(b"*ptr", &[b"DMDI\0\0".to_vec(), random.bytes(2)].concat())
-        .plus(b"dlfc", &random.bytes(4))
-        .plus(b"fac_", &fac.value());
-    if !random.one_in(3) {
-        draft = draft.plus(b"sdc_", &random_sdc(random));
-    }
-    draft = draft
-        .plus(b"sdci", &random_sdci(random, &description))
-        .plus(b"robm", &[random.below(4) as u8]);
-    for (name, stream) in STREAMS.iter().zip(description.streams) {
-        if stream.length() > 0 || random.one_in(4) {
-            draft = draft.plus(name, &random.bytes(stream.length()));
-        }
-    }
-    if !random.one_in(3) {
-        draft = draft.plus(b"tist", &random_timestamp(random).value());
-    }
+    let mut draft = described_draft(random, mode, &description);
     if random.one_in(3) {
         add_unknown(&mut draft, random);
     }
@@ -342,6 +331,139 @@ pub fn random_draft(random: &mut Random) -> Draft {
         draft.tail = random.bytes(length);
     }
     draft
+}
+
+/// A packet with streams as described, in the writer's order; read where the description is well formed.
+pub fn described_draft(random: &mut Random, mode: u8, description: &Description) -> Draft {
+    let fac = Fac {
+        msc_mode: mode,
+        ..random_fac(random)
+    };
+    let mut draft = Draft::default()
+        .plus(b"*ptr", &[b"DMDI\0\0".to_vec(), random.bytes(2)].concat())
+        .plus(b"dlfc", &random.bytes(4))
+        .plus(b"fac_", &fac.value());
+    if !random.one_in(3) {
+        draft = draft.plus(b"sdc_", &random_sdc(random));
+    }
+    draft = draft
+        .plus(b"sdci", &random_sdci(random, description))
+        .plus(b"robm", &[random.below(4) as u8]);
+    for (name, stream) in STREAMS.iter().zip(description.streams) {
+        if stream.length() > 0 || random.one_in(4) {
+            draft = draft.plus(name, &random.bytes(stream.length()));
+        }
+    }
+    if !random.one_in(3) {
+        draft = draft.plus(b"tist", &random_timestamp(random).value());
+    }
+    draft
+}
+
+/// A packet with every item that there is, unknown ones among them, in any order and with padding.
+pub fn full_draft(random: &mut Random) -> Draft {
+    let description = described::of(2, 1, &[[0, 3], [2, 1], [1, 0], [0, 5]]);
+    let data = random.bytes(3);
+    let mut draft = described_draft(random, 0, &description)
+        .with(b"sdc_", &sdc_value(9, &data))
+        .with(b"tist", &random_timestamp(random).value());
+    add_unknown(&mut draft, random);
+    shuffle(&mut draft, random);
+    draft.ending(&[0x2A; 7])
+}
+
+/// The worked packet with each of its items in turn moved to the front, and in the other direction.
+pub fn other_orders() -> Vec<Draft> {
+    let mut list = Vec::new();
+    for place in 0..v0().items.len() {
+        let mut draft = v0();
+        draft.items.rotate_left(place);
+        list.push(draft.clone());
+        draft.items.reverse();
+        list.push(draft);
+    }
+    list
+}
+
+/// The worked packet without each known item, with each one twice, and with each one in lengths around its
+/// own.
+pub fn each_item() -> Vec<Draft> {
+    let names = [
+        *b"*ptr", *b"dlfc", *b"fac_", *b"sdc_", *b"sdci", *b"robm", *b"tist",
+    ];
+    let mut list = Vec::new();
+    for name in names.iter().chain(&STREAMS) {
+        let value = v0().part(name).map_or(vec![], |item| item.value.clone());
+        list.push(v0().without(name));
+        list.push(v0().with(name, &value).plus(name, &[]));
+        list.push(v0().with(name, &value).plus(name, &value));
+        let bits = 8 * value.len() as u32;
+        for other in [
+            0,
+            bits.saturating_sub(8),
+            bits.saturating_sub(1),
+            bits + 1,
+            bits + 8,
+        ] {
+            let mut other_value = value.clone();
+            other_value.resize(other.div_ceil(8) as usize, 0);
+            list.push(v0().with_bits(name, other, &other_value));
+        }
+        // Another case of its letters, and the next name.
+        for byte in [0, 3] {
+            let mut draft = v0();
+            if let Some(item) = draft.part(name) {
+                item.name[byte] ^= if byte == 0 { 0x20 } else { 0x01 };
+            }
+            list.push(draft);
+        }
+    }
+    for length in [0, 1, 2, 1_022, 1_023, 1_024, 1_025, 1_026] {
+        list.push(v0().with(b"sdc_", &sdc_value(7, &vec![0x5A; length])));
+    }
+    list
+}
+
+/// Packets of as many bytes as there may be, and one more: of one great item or of a great many empty ones,
+/// good and spoiled at their end.
+pub fn longest_drafts(random: &mut Random) -> Vec<Draft> {
+    let mut list = Vec::new();
+    for length in [LONGEST_INPUT - 1, LONGEST_INPUT, LONGEST_INPUT + 1] {
+        list.push(v0().filled(length));
+        list.push(random_fill(random, length));
+        list.push(v0().without(b"robm").filled(length));
+    }
+    let room = (LONGEST_INPUT - v0().bytes().len()) / items::HEADER;
+    let mut many = v0();
+    for number in 0..room as u32 {
+        many = many.grown(&number.to_be_bytes());
+    }
+    list.push(many.clone());
+    let mut twice = many.clone();
+    if let Some(item) = twice.items.last_mut() {
+        item.name = [0, 0, 0, 5];
+    }
+    list.push(twice);
+    let mut cut = many.clone();
+    if let Some(item) = cut.items.last_mut() {
+        item.bits = 9;
+    }
+    list.push(cut.ending(&[0]));
+    let padding = LONGEST_INPUT - many.bytes().len();
+    list.push(many.clone().ending(&vec![0; padding]));
+    list.push(many.ending(&vec![0; padding + 1]));
+    list
+}
+
+/// A random packet with one more item, so that it has that length; one that is longer stays as it is.
+pub fn random_fill(random: &mut Random, length: usize) -> Draft {
+    let mut draft = random_draft(random).without(b"xxxx");
+    draft.tail.clear();
+    let now = draft.bytes().len();
+    match now + items::HEADER <= length {
+        true => draft.filled(length),
+        false => draft,
+    }
 }
 
 /// An empty value, or an AFS index with few data bytes, seldom with as many as there may be.
@@ -604,6 +726,53 @@ mod tests {
             let packet = random_draft(&mut random).bytes();
             assert!(mdi::read(&packet).is_ok());
         }
+    }
+
+    /// Every item at its place, in any order, and as long a packet as there may be.
+    #[test]
+    fn more_good_ones() {
+        let mut random = Random::new(3);
+        for _ in 0..200 {
+            assert!(mdi::read(&full_draft(&mut random).bytes()).is_ok());
+        }
+        for draft in other_orders() {
+            assert_eq!(mdi::read(&draft.bytes()), mdi::read(&v0().bytes()));
+        }
+        for description in described::limits() {
+            let draft = described_draft(&mut random, 0, &description);
+            assert!(mdi::read(&draft.bytes()).is_ok());
+        }
+    }
+
+    #[test]
+    fn the_longest_packets() {
+        let longest = longest_drafts(&mut Random::new(4));
+        let found: Vec<(usize, u8, u64)> = longest
+            .iter()
+            .map(|draft| {
+                let packet = draft.bytes();
+                let (number, place) = match mdi::read(&packet) {
+                    Ok(_) => (0, 0),
+                    Err(refusal) => (refusal.number, refusal.place),
+                };
+                (packet.len(), number, place)
+            })
+            .collect();
+        for (length, number, _) in &found {
+            assert!(*length > LONGEST_INPUT - 3 && *length < LONGEST_INPUT + 2);
+            assert_eq!(*number == 1, *length > LONGEST_INPUT);
+        }
+        let many: Vec<(usize, u8, u64)> = found[9..].to_vec();
+        assert_eq!(
+            many,
+            [
+                (65_527, 0, 0),
+                (65_527, 3, 65_519),
+                (65_528, 2, 65_519),
+                (65_528, 0, 0),
+                (65_529, 1, 0)
+            ]
+        );
     }
 
     #[test]

@@ -11,6 +11,7 @@ mod described;
 mod description;
 mod disperse;
 mod fac;
+mod follows;
 mod frame;
 mod layout;
 mod layout_text;
@@ -18,9 +19,11 @@ mod mdi;
 pub mod mdi_drafts;
 mod number;
 mod packet;
+mod receiver;
 mod recording;
 mod script;
 mod settings;
+mod through;
 
 use crate::answer::Answer;
 use crate::case::Entry;
@@ -80,6 +83,9 @@ pub const CALLS: &[Call] = &[
     mdi::WRITE,
     fac::READ,
     fac::WRITE,
+    follows::FOLLOWS,
+    receiver::SCRIPT,
+    through::SCRIPT,
 ];
 
 /// The call of an entry; none where the file or the code is broken.
@@ -132,7 +138,7 @@ mod tests {
     }
 
     /// The numbers that can stand in an answer of each call.
-    const NUMBERS: [(u8, &[u8]); 33] = [
+    const NUMBERS: [(u8, &[u8]); 36] = [
         (1, &[0]),
         (2, &[0]),
         (3, &[0, 1]),
@@ -166,6 +172,9 @@ mod tests {
         (42, &[0, 1, 5, 6, 9, 10, 11]),
         (43, &[0, 1, 5, 7, 9]),
         (44, &[0, 1, 6, 9]),
+        (45, &[0, 6]),
+        (50, &[0, 1, 13, 16, 17]),
+        (51, &[0, 1, 13, 14, 15]),
     ];
 
     /// Those and no others, among the fixed cases as well as among random ones.
@@ -219,7 +228,8 @@ mod tests {
                 assert!(arguments(&entry).is_some());
                 if let Some(answer) = answer(&entry) {
                     // The values of a script are as many as its steps ask for, and have no names.
-                    if call.code != script::SCRIPT.code {
+                    let scripts = [script::SCRIPT, receiver::SCRIPT, through::SCRIPT];
+                    if scripts.iter().all(|script| script.code != call.code) {
                         assert_eq!(answer.values.len(), call.values.len());
                     }
                     assert_eq!(answer.buffers.len(), call.buffers.len());

@@ -53,10 +53,11 @@ pub const WRITE: Call = Call {
     buffers: &["output"],
 };
 
+/// A packet as it is handed in.
 #[derive(Default, Clone)]
-struct Handed {
-    p: u64,
-    packet: Buffer,
+pub struct Handed {
+    pub p: u64,
+    pub packet: Buffer,
 }
 
 impl Arguments for Handed {
@@ -131,7 +132,7 @@ fn write(body: &mut Reader) -> Option<Answer> {
 const P: [u64; 10] = [1, 2, 3, 4, 13, 61, 62, 128, 254, 255];
 
 /// No p at all, some of them p = 4 if their bits were shortened.
-const NO_P: [u64; 8] = [
+pub const NO_P: [u64; 8] = [
     0,
     256,
     257,
@@ -143,7 +144,7 @@ const NO_P: [u64; 8] = [
 ];
 
 /// A packet with this header byte and data, and its check word.
-fn packed(header: u8, data: &[u8]) -> Vec<u8> {
+pub fn packed(header: u8, data: &[u8]) -> Vec<u8> {
     let mut packet = [&[header], data].concat();
     packet.extend(crc16(&packet).to_be_bytes());
     packet
@@ -186,7 +187,7 @@ fn counting(random: &mut Random, p: usize, count: u8) -> Handed {
 }
 
 /// The packets that the documents work out, all with p = 4 but the second.
-fn worked() -> Vec<Handed> {
+pub fn worked() -> Vec<Handed> {
     let packets: [&[u8]; 7] = [
         &[0xF8, 0, 0, 0, 0, 0xD3, 0x88],
         &[0xF8, 0, 0x78, 0x98],
@@ -257,7 +258,7 @@ fn flip(handed: &mut Handed, bit: usize) {
 }
 
 /// What can be wrong with a packet; the number of each stands behind it.
-const FAULTS: &[Fault<Handed>] = &[
+pub const FAULTS: &[Fault<Handed>] = &[
     too_high_a_count,                                        // 16
     flip_any,                                                // 16
     one_length_off,                                          // 1

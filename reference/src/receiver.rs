@@ -1,0 +1,380 @@
+//! The receiver of the shared stream: four ids, one packet a call (document 01, "Packets, queues and
+//! receiver"; "Numbers given back": 17).
+
+use crate::packet::{self, Packet};
+use crate::refusal::{refuse, Refusal};
+use crate::sender::IDS;
+
+/// The buffer's bytes for each id, and the longest unit.
+pub const ID_BYTES: usize = 4_096;
+/// The buffer's bytes.
+pub const BUFFER_BYTES: usize = IDS * ID_BYTES;
+
+const HIGHEST_INDEX: u8 = 7;
+
+/// What is known of one id, as it is handed in: any content. A flag is 0 or not.
+#[derive(Debug, Clone, Copy, Default, PartialEq, Eq)]
+pub struct Link {
+    /// Whether there was a packet of this id.
+    pub heard: u8,
+    /// The continuity index of the next packet; of no meaning where there was none yet.
+    pub index: u8,
+    /// Whether a unit has begun and not ended.
+    pub open: u8,
+    /// Bytes of the open unit; of no meaning where none is open.
+    pub length: u16,
+}
+
+impl Link {
+    fn check(&self) -> Result<(), Refusal> {
+        refuse(17, self.index > HIGHEST_INDEX)?;
+        refuse(17, self.open != 0 && usize::from(self.length) > ID_BYTES)
+    }
+
+    /// No unit is open any more.
+    fn drop_unit(&mut self) {
+        (self.open, self.length) = (0, 0);
+    }
+
+    /// Takes an accepted packet of this id in; the buffer is the id's part. The length where a unit ends.
+    fn take(&mut self, packet: &Packet, buffer: &mut [u8]) -> Option<usize> {
+        let header = packet.header;
+        let expected = self.heard == 0 || header.index == self.index;
+        (self.heard, self.index) = (1, (header.index + 1) % (HIGHEST_INDEX + 1));
+        if self.open == 0 || !expected {
+            self.drop_unit();
+        }
+        if is_null(packet) {
+            return None;
+        }
+        if header.first {
+            (self.open, self.length) = (1, 0);
+        }
+        if self.open == 0 {
+            return None;
+        }
+        let begin = usize::from(self.length);
+        let end = begin + packet.useful.len();
+        if end > ID_BYTES {
+            self.drop_unit();
+            return None;
+        }
+        buffer[begin..end].copy_from_slice(&packet.useful);
+        self.length = end as u16;
+        if !header.last {
+            return None;
+        }
+        self.drop_unit();
+        Some(end)
+    }
+}
+
+/// Padded, count 0, both flags, on any id.
+fn is_null(packet: &Packet) -> bool {
+    packet.padded && packet.useful.is_empty() && packet.header.first && packet.header.last
+}
+
+/// A unit that has ended: its bytes stand at the front of its id's part of the buffer.
+#[derive(Debug, Clone, Copy, PartialEq, Eq)]
+pub struct Delivered {
+    pub id: usize,
+    pub length: usize,
+}
+
+impl Delivered {
+    pub fn unit<'a>(&self, buffer: &'a [u8]) -> &'a [u8] {
+        let begin = ID_BYTES * self.id;
+        &buffer[begin..begin + self.length]
+    }
+}
+
+/// The record of the four ids as it is handed in: any content.
+#[derive(Debug, Clone, Copy, Default, PartialEq, Eq)]
+pub struct Receiver {
+    pub links: [Link; IDS],
+}
+
+impl Receiver {
+    /// Takes one packet in, and tells which unit it ends.
+    pub fn step(
+        &mut self,
+        p: u64,
+        buffer: &mut [u8],
+        bytes: &[u8],
+    ) -> Result<Option<Delivered>, Refusal> {
+        packet::check_p(p)?;
+        for link in &self.links {
+            link.check()?;
+        }
+        refuse(1, buffer.len() != BUFFER_BYTES)?;
+        let packet = packet::read(p, bytes)?; // 1, 16
+        let id = usize::from(packet.header.id);
+        let part = &mut buffer[ID_BYTES * id..ID_BYTES * (id + 1)];
+        let ended = self.links[id].take(&packet, part);
+        Ok(ended.map(|length| Delivered { id, length }))
+    }
+}
+
+#[cfg(test)]
+mod tests {
+    use super::*;
+    use crate::packet::{Header, FRAMING};
+    use crate::random::Random;
+    use crate::sender::{Sender, Settings, STORE_BYTES};
+    use std::collections::VecDeque;
+
+    fn refused<T>(number: u8) -> Result<T, Refusal> {
+        Err(Refusal::number(number))
+    }
+
+    fn header(flags: u8, id: u8, index: u8) -> Header {
+        Header {
+            first: flags & 2 != 0,
+            last: flags & 1 != 0,
+            id,
+            index,
+        }
+    }
+
+    const FIRST: u8 = 2;
+    const MIDDLE: u8 = 0;
+    const LAST: u8 = 1;
+    const BOTH: u8 = 3;
+
+    /// A receiver with its buffer, fresh.
+    struct Run {
+        receiver: Receiver,
+        buffer: Vec<u8>,
+    }
+
+    impl Run {
+        fn new() -> Run {
+            Run {
+                receiver: Receiver::default(),
+                buffer: vec![0xEE; BUFFER_BYTES],
+            }
+        }
+
+        /// A packet with p = 4: the unit's bytes where one ends.
+        fn take(&mut self, flags: u8, id: u8, index: u8, useful: &[u8]) -> Option<Vec<u8>> {
+            let mut bytes = [0; 7];
+            packet::write(4, header(flags, id, index), useful, &mut bytes).unwrap();
+            let ended = self.receiver.step(4, &mut self.buffer, &bytes).unwrap();
+            ended.map(|ended| {
+                assert_eq!(ended.id, usize::from(id));
+                ended.unit(&self.buffer).to_vec()
+            })
+        }
+
+        fn link(&self, id: usize) -> (u8, u8, u8, u16) {
+            let link = self.receiver.links[id];
+            (link.heard, link.index, link.open, link.length)
+        }
+    }
+
+    #[test]
+    fn worked_packets() {
+        let mut run = Run::new();
+        let packets: [&[u8]; 4] = [
+            &[0x90, 1, 2, 3, 4, 0xC5, 0x7A],
+            &[0x59, 2, 5, 6, 0, 0xFF, 0x83],
+            &[0x88, 0, 0, 0, 0, 0xCE, 0x0E],
+            &[0x49, 0, 0, 0, 0, 0x57, 0xE7],
+        ];
+        let ended = packets.map(|bytes| run.receiver.step(4, &mut run.buffer, bytes).unwrap());
+        assert_eq!(ended[0], None);
+        assert_eq!(ended[1], Some(Delivered { id: 1, length: 6 }));
+        assert_eq!(ended[2], None);
+        assert_eq!(ended[3], Some(Delivered { id: 0, length: 0 }));
+        assert_eq!(run.buffer[4_096..4_103], [1, 2, 3, 4, 5, 6, 0xEE]);
+        assert_eq!((run.link(0), run.link(1)), ((1, 2, 0, 0), (1, 2, 0, 0)));
+        assert_eq!(run.link(2), (0, 0, 0, 0));
+    }
+
+    /// First contact takes any index, and a break drops the unit even where a packet goes on.
+    #[test]
+    fn breaks() {
+        let mut run = Run::new();
+        assert_eq!(run.take(FIRST, 2, 6, &[1, 2]), None);
+        assert_eq!(run.take(MIDDLE, 2, 7, &[3, 4, 5, 6]), None);
+        assert_eq!(run.link(2), (1, 0, 1, 6));
+        assert_eq!(run.take(LAST, 2, 0, &[]), Some(vec![1, 2, 3, 4, 5, 6]));
+        assert_eq!(run.take(FIRST, 2, 1, &[7]), None);
+        assert_eq!(run.take(LAST, 2, 3, &[8]), None);
+        assert_eq!(run.link(2), (1, 4, 0, 0));
+        assert_eq!(run.take(LAST, 2, 4, &[8]), None);
+        // A break and a first flag: the new unit stands.
+        assert_eq!(run.take(FIRST, 2, 5, &[9]), None);
+        assert_eq!(run.take(BOTH, 2, 1, &[10]), Some(vec![10]));
+        // A repeated packet is a break.
+        assert_eq!(run.take(FIRST, 2, 2, &[1]), None);
+        assert_eq!(run.take(MIDDLE, 2, 3, &[2]), None);
+        assert_eq!(run.take(MIDDLE, 2, 3, &[2]), None);
+        assert_eq!(run.take(LAST, 2, 4, &[3]), None);
+    }
+
+    #[test]
+    fn null_packets_leave_the_unit_open() {
+        for id in 0..4 {
+            let mut run = Run::new();
+            assert_eq!(run.take(FIRST, id, 7, &[1, 2, 3, 4]), None);
+            assert_eq!(run.take(BOTH, id, 0, &[]), None);
+            assert_eq!(run.link(usize::from(id)), (1, 1, 1, 4));
+            assert_eq!(run.take(LAST, id, 1, &[5]), Some(vec![1, 2, 3, 4, 5]));
+            assert_eq!(run.take(FIRST, id, 2, &[1]), None);
+            assert_eq!(run.take(BOTH, id, 4, &[]), None);
+            assert_eq!(run.link(usize::from(id)), (1, 5, 0, 0));
+            assert_eq!(run.take(LAST, id, 5, &[5]), None);
+        }
+    }
+
+    #[test]
+    fn eight_lost_packets_are_not_seen() {
+        for lost in 1..=16 {
+            let mut run = Run::new();
+            assert_eq!(run.take(FIRST, 1, 3, &[1]), None);
+            let found = run.take(LAST, 1, (4 + lost) % 8, &[2]);
+            assert_eq!(found, (lost % 8 == 0).then(|| vec![1, 2]));
+        }
+    }
+
+    /// Up to 4,096 bytes; one more and the unit is dropped, nothing written, and its end delivers nothing.
+    #[test]
+    fn the_longest_unit() {
+        for (already, useful, length) in [
+            (4_092, 4, Some(4_096)),
+            (4_093, 4, None),
+            (4_096, 0, Some(4_096)),
+            (4_096, 1, None),
+        ] {
+            let mut run = Run::new();
+            run.receiver.links[3] = Link {
+                heard: 1,
+                index: 5,
+                open: 1,
+                length: already,
+            };
+            let found = run.take(LAST, 3, 5, &[7; 4][..useful]);
+            assert_eq!(found.map(|unit| unit.len()), length);
+            let written = run.buffer.iter().filter(|byte| **byte == 7).count();
+            assert_eq!(written, length.map_or(0, |_| useful));
+            assert_eq!(run.link(3), (1, 6, 0, 0));
+            assert_eq!(run.take(LAST, 3, 6, &[7]), None);
+        }
+    }
+
+    /// What is handed in for an id that is not the packet's stays as it is.
+    #[test]
+    fn other_ids_stay() {
+        let strange = Link {
+            heard: 0,
+            index: 3,
+            open: 0,
+            length: 65_535,
+        };
+        let mut run = Run::new();
+        run.receiver.links = [strange; 4];
+        assert_eq!(run.take(BOTH, 0, 2, &[]), None);
+        assert_eq!(run.link(0), (1, 3, 0, 0));
+        assert_eq!(run.receiver.links[1..], [strange; 3]);
+        assert_eq!(run.buffer, [0xEE; BUFFER_BYTES]);
+    }
+
+    #[test]
+    fn order_of_refusals() {
+        let good = [0x90, 1, 2, 3, 4, 0xC5, 0x7A];
+        let wrong = [0x90, 1, 2, 3, 4, 0xC5, 0x7B];
+        let mut broken = Receiver::default();
+        broken.links[3].index = 8;
+        let tried = |receiver: Receiver, p, length, bytes: &[u8]| {
+            let mut after = receiver;
+            let mut buffer = vec![0xEE; length];
+            let found = after.step(p, &mut buffer, bytes);
+            assert_eq!((after, buffer), (receiver, vec![0xEE; length]));
+            found
+        };
+        for p in [0, 256, (1 << 32) + 4, u64::MAX] {
+            assert_eq!(tried(broken, p, 5, &wrong), refused(13));
+        }
+        assert_eq!(tried(broken, 4, 5, &wrong[1..]), refused(17));
+        let fresh = Receiver::default();
+        for length in [0, 16_383, 16_385] {
+            assert_eq!(tried(fresh, 4, length, &wrong), refused(1));
+        }
+        assert_eq!(tried(fresh, 4, BUFFER_BYTES, &wrong[..6]), refused(1));
+        assert_eq!(tried(fresh, 4, BUFFER_BYTES, &wrong), refused(16));
+        assert!(Run::new().take(BOTH, 1, 0, &good[1..5]).is_some());
+    }
+
+    #[test]
+    fn broken_records() {
+        for id in 0..4 {
+            for (heard, index, open, length, number) in [
+                (1, 8, 0, 0, 17),
+                (0, 8, 0, 0, 17),
+                (0, 255, 1, 4_097, 17),
+                (1, 0, 1, 4_097, 17),
+                (0, 0, 1, 4_097, 17),
+                (0, 0, 255, 65_535, 17),
+                (1, 7, 1, 4_096, 0),
+                (1, 7, 0, 4_097, 0),
+                (0, 7, 1, 4_096, 0),
+            ] {
+                let mut receiver = Receiver::default();
+                receiver.links[id] = Link {
+                    heard,
+                    index,
+                    open,
+                    length,
+                };
+                let null = [0xF8, 0, 0, 0, 0, 0xD3, 0x88];
+                let found = receiver.step(4, &mut vec![0; BUFFER_BYTES], &null);
+                assert_eq!(found.map_or_else(|refusal| refusal.number, |_| 0), number);
+            }
+        }
+    }
+
+    /// Every unit wholly sent comes back, per id in order, byte for byte.
+    #[test]
+    fn from_sender_to_receiver() {
+        let mut random = Random::new(1);
+        let mut delivered = 0;
+        for round in 0..60 {
+            let packets = 1 + random.below(12);
+            let settings = Settings {
+                p: random.pick(&[1, 2, 3, 7, 20, 255]),
+                packets,
+                shares: [packets / 3; 3],
+                ceilings: [packets, packets.div_ceil(2), packets],
+            };
+            settings.check().unwrap();
+            let (mut sender, mut store) = (Sender::default(), vec![0; STORE_BYTES]);
+            let mut run = Run::new();
+            let mut loaded: [VecDeque<Vec<u8>>; 3] = Default::default();
+            let bytes = settings.p as usize + FRAMING;
+            for _ in 0..80 {
+                let id = random.below(3) as usize;
+                let length = random.pick(&[1, 5, 30, settings.p, 2 * settings.p, 700]);
+                let unit = random.bytes(length as usize);
+                let done = sender.load(&settings, &mut store, id as u64, &unit);
+                if done.is_ok() {
+                    loaded[id].push_back(unit);
+                }
+                let mut frame = vec![0; packets as usize * bytes];
+                sender.frame(&settings, &mut store, &mut frame).unwrap();
+                for packet in frame.chunks(bytes) {
+                    let step = run.receiver.step(settings.p, &mut run.buffer, packet);
+                    if let Some(ended) = step.unwrap() {
+                        let unit = loaded[ended.id].pop_front().unwrap();
+                        assert_eq!(ended.unit(&run.buffer), unit, "round {round}");
+                        delivered += 1;
+                    }
+                }
+            }
+            for (queue, left) in sender.queues.iter().zip(loaded) {
+                assert_eq!(queue.units as usize, left.len());
+            }
+        }
+        assert!(delivered > 1_000);
+    }
+}
