@@ -9,7 +9,9 @@ ghost use Rattle.sender.specs.State.{fresh};
 ghost use Rattle.sender.specs.Load.{loadFor, storeFor};
 ghost use Rattle.sender.specs.Frame.{frameFor, storeAfter, outFor};
 use hand::Settings;
-use sender::{Framed, Loaded, Sender};
+use sender::Framed;
+use sender::Loaded;
+use sender::Sender;
 
 #[no_mangle]
 pub extern "C" fn keshgurvat_disperse(input: &[u8], output: &mut [u8]) -> u32
@@ -41,7 +43,13 @@ pub extern "C" fn keshgurvat_sender_fresh() -> Sender
 }
 
 #[no_mangle]
-pub extern "C" fn keshgurvat_load(state: Sender, settings: Settings, store: &mut [u8], id: usize, unit: &[u8]) -> Loaded
+pub extern "C" fn keshgurvat_load(
+    state: Sender,
+    settings: Settings,
+    store: &mut [u8],
+    id: usize,
+    unit: &[u8],
+) -> Loaded
     ensures answer { λ r. ⌜ r ≡ loadFor settings state id (now (unit .entry)) (now (store .entry)) ⌝ }
     ensures memory { λ _. ⌜ now (store .exit) ≡ storeFor settings state id (now (unit .entry)) (now (store .entry)) ⌝ }
 {
@@ -49,7 +57,12 @@ pub extern "C" fn keshgurvat_load(state: Sender, settings: Settings, store: &mut
 }
 
 #[no_mangle]
-pub extern "C" fn keshgurvat_frame(state: Sender, settings: Settings, store: &mut [u8], out: &mut [u8]) -> Framed
+pub extern "C" fn keshgurvat_frame(
+    state: Sender,
+    settings: Settings,
+    store: &mut [u8],
+    out: &mut [u8],
+) -> Framed
     ensures answer { λ r. ⌜ r ≡ frameFor settings state (now (store .entry)) (now (out .entry)) ⌝ }
     ensures kept { λ _. ⌜ now (store .exit) ≡ storeAfter settings state (now (store .entry)) (now (out .entry)) ⌝ }
     ensures written { λ _. ⌜ now (out .exit) ≡ outFor settings state (now (store .entry)) (now (out .entry)) ⌝ }
