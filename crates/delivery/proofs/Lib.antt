@@ -1,0 +1,4 @@
+pub mod Hear
+pub mod Step
+pub mod Lines
+pub mod Passing

@@ -1,0 +1,4 @@
+pub mod Delivered
+pub mod Lines
+pub mod Flow
+pub mod Sent
