@@ -2,3 +2,4 @@ pub mod Hear
 pub mod Step
 pub mod Lines
 pub mod Passing
+pub mod Numbered
