@@ -3,3 +3,5 @@ pub mod Step
 pub mod Lines
 pub mod Passing
 pub mod Numbered
+pub mod Accepted
+pub mod Come

@@ -2,3 +2,4 @@ pub mod Delivered
 pub mod Lines
 pub mod Flow
 pub mod Sent
+pub mod Whole
