@@ -5,3 +5,4 @@ pub mod Passing
 pub mod Numbered
 pub mod Accepted
 pub mod Come
+pub mod Soon
