@@ -23,7 +23,7 @@ use Rattle.sender.proofs.Loading.{passed}
 use Rattle.demand.specs.Run.{Act, load, frame, Desk, settingsOf, after, run, Steady, turnOf, history, acceptedBy, acceptedIn, waitingIn}
 use Rattle.demand.proofs.Good.{Good, fresh-good, run-good}
 use Rattle.demand.proofs.Demand.{wholly-sent-by-shares}
-use Rattle.delivery.specs.Flow.{AllSome, AllFit}
+use Rattle.delivery.specs.Flow.{Fair}
 use Rattle.delivery.specs.Sent.{freshDesk}
 use Rattle.delivery.specs.Whole.{leftIn}
 
@@ -41,10 +41,6 @@ accepted-append id (a ∷ acts) more x =
     ∙ sym (append-assoc (acceptedBy id a x) (acceptedIn id acts (after a x)) (acceptedIn id more (run acts (after a x))))
 
 -- ---- each has 1 to 4,096 bytes
-pub record Fair (us : List (List ℕ)) : Type 0 where
-  pub some : AllSome us
-  pub fit : AllFit us
-
 fair-append : (us vs : List (List ℕ)) → Fair us → Fair vs → Fair (us ++ vs)
 fair-append [] vs a b = b
 fair-append (u ∷ us) vs a b =

@@ -1,16 +1,14 @@
 -- C6: what a sender that began fresh has wholly sent comes back per id, in order, byte for byte. Assumes nothing.
-use Prim.Native.Nat.{ℕ, zero, suc, _+_, _-_, _<_, _≤_}
+use Prim.Native.Nat.{ℕ, zero, suc, _<_}
 use mathlib.Core.Path.{_≡_, refl, sym, ap, ap₂, _∙_}
-use mathlib.Core.List.{List, [], _∷_, _++_}
-use mathlib.Core.Bool.{Bool, true, false, true≢false}
+use mathlib.Core.List.{List, [], _++_}
+use mathlib.Core.Bool.{Bool, false}
 use native.Mathlib.Omega.{arith}
-use lib.ListN.{length, take, length-append}
-use lib.Seq.{take-at}
+use lib.ListN.{length}
 use Rattle.queue.specs.Send.{got}
 use Rattle.row.specs.Content.{cut, contentOf, begunIn, chunks, rests}
 use Rattle.sender.specs.State.{fresh, queueOf, indexOf}
 use Rattle.packet.specs.Packet.{Packet}
-use Rattle.receiver.specs.Link.{noLink}
 use Rattle.receiver.specs.Receiver as receives
 use Rattle.receiver.specs.Line.{Line, lineOf}
 use Rattle.demand.specs.Run.{Act, Desk, run, Steady, history, acceptedIn, contentIn}
@@ -18,32 +16,24 @@ use Rattle.demand.proofs.Good.{fresh-good}
 use Rattle.demand.proofs.Pieces.{pieces}
 use Rattle.delivery.specs.Delivered.{Ear, freshEar, lineAt, hearAll, deliveredOf}
 use Rattle.delivery.specs.Lines.{readable, own, lineThrough, unitsThrough, numbered}
-use Rattle.delivery.specs.Flow.{wholes, AllSome, AllFit, Linked}
+use Rattle.delivery.specs.Flow.{wholes}
 use Rattle.delivery.specs.Sent.{sentIn, freshDesk, deliveredIn}
 use Rattle.delivery.specs.Whole.{whollySent, leftIn, pendingIn}
 use Rattle.delivery.proofs.Hear.{fresh-ok}
 use Rattle.delivery.proofs.Lines.{heard}
-use Rattle.delivery.proofs.Passing.{gone}
+use Rattle.delivery.proofs.Passing.{gone, idle, idle-linked, wholes-idle, wholes-length}
+use Rattle.delivery.proofs.Lists.{front}
 use Rattle.delivery.proofs.Numbered.{run-numbered}
-use Rattle.delivery.proofs.Accepted.{Fair, fair-run, count-left}
+use Rattle.delivery.proofs.Accepted.{fair-run, count-left}
 
 -- ---- fresh
-fresh-line : (buffer : List ℕ) (id : ℕ) → lineAt (freshEar buffer) id ≡ record { link = noLink; bytes = [] }
+pub fresh-line : (buffer : List ℕ) (id : ℕ) → lineAt (freshEar buffer) id ≡ idle
 unfolding lineOf receives.fresh
 fresh-line buffer zero = refl
 fresh-line buffer (suc zero) = refl
 fresh-line buffer (suc (suc zero)) = refl
 fresh-line buffer (suc (suc (suc zero))) = refl
 fresh-line buffer (suc (suc (suc (suc id)))) = refl
-
-wholes-idle : (us : List (List ℕ)) → wholes (record { link = noLink; bytes = [] }) us ≡ us
-unfolding wholes
-wholes-idle [] = refl
-wholes-idle (u ∷ us) = refl
-
-pub idle-linked : (us : List (List ℕ)) (i : ℕ) → Fair us → Linked us false i (record { link = noLink; bytes = [] })
-idle-linked us i f =
-    record { index = λ e. absurd (true≢false (sym e)); begun = refl; size = refl; none = λ e. refl; idle = λ e. refl; some = f .some; fit = rw (wholes-idle us) (f .fit) }
 
 record Fresh (id : ℕ) (store : List ℕ) : Type 0 where
   content : contentIn id (freshDesk store) ≡ []
@@ -77,16 +67,13 @@ module _ (p id : ℕ) (acts : List Act) (store buffer : List ℕ) (h : id < 3) (
   abbrev X : Desk
   X = freshDesk store
 
-  abbrev L : Line
-  L = record { link = noLink; bytes = [] }
-
   abbrev K : List Packet
   K = numbered id 0 (chunks p (got (history id acts X)) false (acceptedIn id acts X))
 
-  units-are : deliveredIn p id acts store buffer ≡ unitsThrough L K
+  units-are : deliveredIn p id acts store buffer ≡ unitsThrough idle K
   units-are = heard p id (freshEar buffer) (sentIn acts X) (fresh-ok buffer hb) .units ∙ ap₂ unitsThrough (fresh-line buffer id) (packets-are p id acts store h hs st)
 
-  line-is : lineAt (hearAll p (freshEar buffer) (sentIn acts X)) id ≡ lineThrough L K
+  line-is : lineAt (hearAll p (freshEar buffer) (sentIn acts X)) id ≡ lineThrough idle K
   line-is = heard p id (freshEar buffer) (sentIn acts X) (fresh-ok buffer hb) .line ∙ ap₂ lineThrough (fresh-line buffer id) (packets-are p id acts store h hs st)
 
   -- what was delivered so far, and behind it what is pending, is what was accepted so far
@@ -96,21 +83,12 @@ module _ (p id : ℕ) (acts : List Act) (store buffer : List ℕ) (h : id < 3) (
       let A = acceptedIn id acts X in
       let n = got (history id acts X) in
       ap₂ (λ (u : List (List ℕ)) (m : Line). u ++ wholes m (rests p n A)) units-are line-is
-      ∙ gone p id n A false 0 L (idle-linked A 0 (fair-run id acts X)) .same
+      ∙ gone p id n A false 0 idle (idle-linked A 0 (fair-run id acts X)) .same
       ∙ wholes-idle A
 
   -- the units delivered are exactly those wholly sent, in order, byte for byte
   pub wholly-sent-come : deliveredIn p id acts store buffer ≡ whollySent id acts X
-  unfolding whollySent wholes
+  unfolding whollySent
   wholly-sent-come =
       front (deliveredIn p id acts store buffer) (pendingIn p id acts store buffer) (acceptedIn id acts X) (queueOf (run acts X .state) id .count) all-come
       (wholes-length (lineAt (hearAll p (freshEar buffer) (sentIn acts X)) id) (leftIn p id acts X) ∙ count-left p id acts store h hs st)
-    where
-      wholes-length : (l : Line) (us : List (List ℕ)) → length (wholes l us) ≡ length us
-      wholes-length l [] = refl
-      wholes-length l (u ∷ us) = refl
-
-      front : (u w a : List (List ℕ)) (n : ℕ) → u ++ w ≡ a → length w ≡ n → u ≡ take (length a - n) a
-      front u w a n e f =
-          let k : length u ≡ length a - n = omega (arith, length-append u w, ap length e) in
-          sym (ap (take (length a - n)) (sym e) ∙ take-at u w (length a - n) k)

@@ -4,5 +4,8 @@ pub mod Lines
 pub mod Passing
 pub mod Numbered
 pub mod Accepted
+pub mod Lists
 pub mod Come
 pub mod Soon
+pub mod Resumed
+pub mod Loss

@@ -2,13 +2,14 @@
 use Prim.Native.Nat.{ℕ, zero, suc, _+_, _%_}
 use mathlib.Core.Path.{_≡_, refl, sym, ap, ap₂, _∙_, subst}
 use mathlib.Core.List.{List, [], _∷_, _++_, append-assoc, append-nil}
-use mathlib.Core.Bool.{Bool}
+use mathlib.Core.Bool.{Bool, false, true≢false}
 use native.Mathlib.Omega.{arith}
 use lib.ListN.{length, length-append}
 use Rattle.packet.specs.Packet.{Chunk, Packet}
 use Rattle.row.specs.Content.{chunkOf, restOf, begunOf, rests, begunAfter, chunks}
+use Rattle.receiver.specs.Link.{noLink}
 use Rattle.receiver.specs.Line.{Line, lineAfter, unitsBy}
-use Rattle.delivery.specs.Flow.{wholes, Linked}
+use Rattle.delivery.specs.Flow.{wholes, AllFit, Fair, Linked}
 use Rattle.delivery.specs.Lines.{lineThrough, unitsThrough, indexAfter, numbered}
 use Rattle.delivery.proofs.Step.{Passed, passed}
 use Rattle.delivery.proofs.Lines.{through-append, units-append, numbered-append}
@@ -55,3 +56,34 @@ gone p id (suc n) us b i l k =
           ∙ ap (λ (x : List (List ℕ)). unitsThrough l ks ++ x) (q .same)
           ∙ g .same;
     }
+
+-- ---- a line with no unit open
+abbrev pub idle : Line
+idle = record { link = noLink; bytes = [] }
+
+pub idle-linked : (us : List (List ℕ)) (i : ℕ) → Fair us → Linked us false i idle
+unfolding wholes
+idle-linked us i f =
+    record {
+      index = λ e. absurd (true≢false (sym e));
+      begun = refl;
+      size = refl;
+      none = λ e. refl;
+      idle = λ e. refl;
+      some = f .some;
+      fit = go us (f .fit);
+    }
+  where
+    go : (us : List (List ℕ)) → AllFit us → AllFit (wholes idle us)
+    go [] a = tt
+    go (u ∷ us) a = a
+
+pub wholes-idle : (us : List (List ℕ)) → wholes idle us ≡ us
+unfolding wholes
+wholes-idle [] = refl
+wholes-idle (u ∷ us) = refl
+
+pub wholes-length : (l : Line) (us : List (List ℕ)) → length (wholes l us) ≡ length us
+unfolding wholes
+wholes-length l [] = refl
+wholes-length l (u ∷ us) = refl

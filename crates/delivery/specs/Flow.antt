@@ -19,6 +19,11 @@ abbrev pub AllFit : List (List ℕ) → Type 0
 AllFit [] = Unit {0}
 AllFit (u ∷ us) = (length u ≤ 4096) × AllFit us
 
+-- units as they are accepted: 1 to 4,096 bytes each
+pub record Fair (us : List (List ℕ)) : Type 0 where
+  pub some : AllSome us
+  pub fit : AllFit us
+
 -- the line is in step with a queue that has us left, the first of them begun or not, and whose next packet has index i
 pub record Linked (us : List (List ℕ)) (b : Bool) (i : ℕ) (l : Line) : Type 0 where
   pub index : l .link .heard ≡ true → l .link .index ≡ i

@@ -3,3 +3,4 @@ pub mod Lines
 pub mod Flow
 pub mod Sent
 pub mod Whole
+pub mod Loss
