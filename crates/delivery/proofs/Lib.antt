@@ -9,3 +9,4 @@ pub mod Come
 pub mod Soon
 pub mod Resumed
 pub mod Loss
+pub mod Examples
