@@ -1,16 +1,16 @@
 -- The units that a queue accepts over a run, and what the state has of them. Assumes nothing.
-use Prim.Native.Nat.{ℕ, zero, suc, _+_, _-_, _<_, _≤_}
-use mathlib.Core.Path.{_≡_, refl, sym, ap, ap₂, _∙_, subst}
+use Prim.Native.Nat.{ℕ, zero, suc, _+_, _-_, _<_}
+use mathlib.Core.Path.{_≡_, refl, sym, ap, ap₂, _∙_}
 use mathlib.Core.List.{List, [], _∷_, _++_, append-assoc, map}
-use mathlib.Core.Bool.{Bool, true, false, not, _&&_, true≢false}
+use mathlib.Core.Bool.{Bool, true, false, _&&_}
 use native.Mathlib.Omega.{arith}
-use borrow.Author.Tests.{eqb-true, le-leb, leb-true, leb-false}
+use borrow.Author.Tests.{eqb-true}
 use lib.Dec.{eqb, leb}
-use lib.ListN.{length, take, drop, length-append, length-drop, length-take, length-map}
+use lib.ListN.{length, drop, length-drop, length-map}
 use lib.Seq.{length-take-le}
 use Rattle.laws.specs.Pick.{pick}
 use Rattle.laws.specs.Refuse.{refusedWith}
-use Rattle.hand.specs.Settings.{at, settingsFor, Allowed}
+use Rattle.hand.specs.Settings.{at, settingsFor}
 use Rattle.hand.specs.declared.Settings.{Settings}
 use Rattle.hand.proofs.Allowed.{allowed}
 use Rattle.queue.specs.Queue.{units}
@@ -21,7 +21,7 @@ use Rattle.sender.specs.Load.{loadTests, loadNumber, loadFor, storeFor}
 use Rattle.sender.specs.Frame.{handOf, frameTests, frameNumber, frameFor, storeAfter}
 use Rattle.sender.proofs.Loading.{passed}
 use Rattle.demand.specs.Run.{Act, load, frame, Desk, settingsOf, after, run, Steady, turnOf, history, acceptedBy, acceptedIn, waitingIn}
-use Rattle.demand.proofs.Good.{Good, fresh-good, run-good}
+use Rattle.demand.proofs.Good.{fresh-good, run-good}
 use Rattle.demand.proofs.Demand.{wholly-sent-by-shares}
 use Rattle.delivery.specs.Flow.{Fair}
 use Rattle.delivery.specs.Sent.{freshDesk}
@@ -103,7 +103,7 @@ rest-lengths p (u ∷ us) = go (leb (length u) p)
     go true = refl
     go false = ap (λ (n : ℕ). n ∷ map length us) (length-drop p u)
 
-rests-lengths : (p n : ℕ) (us : List (List ℕ)) → map length (rests p n us) ≡ send p n (map length us)
+pub rests-lengths : (p n : ℕ) (us : List (List ℕ)) → map length (rests p n us) ≡ send p n (map length us)
 unfolding rests send
 rests-lengths p zero us = refl
 rests-lengths p (suc n) us = rest-lengths p (rests p n us) ∙ ap (one p) (rests-lengths p n us)

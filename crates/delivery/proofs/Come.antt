@@ -1,6 +1,6 @@
 -- C6: what a sender that began fresh has wholly sent comes back per id, in order, byte for byte. Assumes nothing.
 use Prim.Native.Nat.{ℕ, zero, suc, _<_}
-use mathlib.Core.Path.{_≡_, refl, sym, ap, ap₂, _∙_}
+use mathlib.Core.Path.{_≡_, refl, ap₂, _∙_}
 use mathlib.Core.List.{List, [], _++_}
 use mathlib.Core.Bool.{Bool, false}
 use native.Mathlib.Omega.{arith}
@@ -14,7 +14,7 @@ use Rattle.receiver.specs.Line.{Line, lineOf}
 use Rattle.demand.specs.Run.{Act, Desk, run, Steady, history, acceptedIn, contentIn}
 use Rattle.demand.proofs.Good.{fresh-good}
 use Rattle.demand.proofs.Pieces.{pieces}
-use Rattle.delivery.specs.Delivered.{Ear, freshEar, lineAt, hearAll, deliveredOf}
+use Rattle.delivery.specs.Delivered.{freshEar, lineAt, hearAll}
 use Rattle.delivery.specs.Lines.{readable, own, lineThrough, unitsThrough, numbered}
 use Rattle.delivery.specs.Flow.{wholes}
 use Rattle.delivery.specs.Sent.{sentIn, freshDesk, deliveredIn}

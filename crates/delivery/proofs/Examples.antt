@@ -9,7 +9,6 @@ use Rattle.laws.specs.Written.{written}
 use Rattle.crc.specs.Crc.{shift, feed, bitsOf, bitsOfAll, crcOf}
 use Rattle.hand.specs.Settings.{unfit, settingsTests, settingsFor}
 use Rattle.hand.specs.Hand.{give, free, giveFirst, giveOne, spread, handOut, taker, takers, countOf, spareIds, planFor, handFor}
-use Rattle.hand.specs.declared.Three.{Three}
 use Rattle.hand.specs.declared.Settings.{Settings}
 use Rattle.packet.specs.Packet.{packetOf, headOf, padded, dataOf, plainOf, sealed, encode, bodyOf, decode}
 use Rattle.packet.specs.Calls.{wrongWord, wrongCount}
@@ -48,3 +47,9 @@ unit-delivered = refl
 pub next-delivered : deliveredOf 4 1 (freshEar (replicate 16384 0)) ((0x59 ∷ 2 ∷ 5 ∷ 6 ∷ 0 ∷ 0xff ∷ 0x83 ∷ []) ∷ encode 4 (packetOf true true 1 2 (7 ∷ 8 ∷ [])) ∷ []) ≡ (7 ∷ 8 ∷ []) ∷ []
 unfolding headOf dataOf plainOf sealed encode bytesOf written bigOf numberAt shift feed bitsOf bitsOfAll crcOf padded bodyOf decode wrongWord wrongCount kept nullOf baseOf joins adds completes fateOf linkWith linkAfter brokenLink receives.fresh receives.broken receives.answerBy receives.answerIn receives.takenIn receives.bufferIn receives.stepTests receives.stepNumber receives.stepFor receives.bufferFor hear unitIn unitBy deliveredOf
 next-delivered = refl
+
+-- eight packets in a row lost inside a unit: the index is the next one again, and what is delivered is no unit that was sent
+pub eight-unnoticed : deliveredOf 1 1 (freshEar (replicate 16384 0)) (encode 1 (packetOf true false 1 0 (1 ∷ [])) ∷ encode 1 (packetOf false true 1 1 (10 ∷ [])) ∷ [])
+    ≡ (1 ∷ 10 ∷ []) ∷ []
+unfolding headOf dataOf plainOf sealed encode bytesOf written bigOf numberAt shift feed bitsOf bitsOfAll crcOf padded bodyOf decode wrongWord wrongCount kept nullOf baseOf joins adds completes fateOf linkWith linkAfter brokenLink receives.fresh receives.broken receives.answerBy receives.answerIn receives.takenIn receives.bufferIn receives.stepTests receives.stepNumber receives.stepFor receives.bufferFor hear unitIn unitBy deliveredOf
+eight-unnoticed = refl

@@ -1,25 +1,23 @@
 -- One packet at the receiver, seen from each id: its own line takes it, every other stays. Assumes nothing.
-use Prim.Native.Nat.{ℕ, zero, suc, _+_, _*_, _%_, _<_, _≤_}
-use mathlib.Core.Path.{_≡_, refl, sym, ap, ap₂, _∙_}
+use Prim.Native.Nat.{ℕ, zero, suc, _+_, _*_, _<_, _≤_}
+use mathlib.Core.Path.{_≡_, refl, sym, ap, _∙_}
 use mathlib.Core.List.{List, [], _∷_, _++_, append-assoc}
-use mathlib.Core.Bool.{Bool, true, false, not, _&&_, _||_, true≢false}
+use mathlib.Core.Bool.{Bool, true, false, not, _&&_, true≢false}
 use native.Mathlib.Omega.{arith}
 use borrow.Author.Tests.{eq-eqb, ne-eqb, le-ltb, leb-true, eqb-true, eqb-false}
 use lib.Dec.{leb, ltb, eqb}
-use lib.ListN.{length, take, drop, getD, set, length-append, length-drop, length-set}
+use lib.ListN.{length, take, drop, getD, length-append, length-drop, length-set}
 use lib.Seq.{getD-set-same, getD-set-other, take-at, length-take-le}
 use Rattle.laws.specs.Pick.{pick}
-use Rattle.laws.specs.Refuse.{refusedWith}
 use Rattle.laws.specs.Written.{written}
 use Rattle.laws.proofs.Written.{written-length}
-use Rattle.packet.specs.Packet.{Chunk, Packet, decode}
+use Rattle.packet.specs.Packet.{Packet, decode}
 use Rattle.packet.specs.Calls.{testsFor, checkFor}
 use Rattle.receiver.specs.declared.Link.{Link}
 use Rattle.receiver.specs.declared.Receiver.{Receiver}
-use Rattle.receiver.specs.declared.Answer.{Answer}
 use Rattle.receiver.specs.Link.{kept, nullOf, baseOf, joins, adds, completes, Fate, delivered, added, dropped, skipped, fateOf, linkWith, linkAfter, brokenLink, noLink}
 use Rattle.receiver.specs.Receiver.{linkOf, fresh, broken, baseIn, addsIn, answerBy, answerIn, linkIn, takenIn, bufferIn, stepTests, stepNumber, stepFor, bufferFor}
-use Rattle.receiver.specs.Line.{Line, grown, lineAfter, unitsBy, partAt, lineOf}
+use Rattle.receiver.specs.Line.{grown, lineAfter, unitsBy, partAt, lineOf}
 use Rattle.demand.proofs.Store.{written-own, written-other}
 use Rattle.delivery.specs.Delivered.{Ear, freshEar, lineAt, hear, unitIn, unitBy}
 

@@ -10,3 +10,4 @@ pub mod Soon
 pub mod Resumed
 pub mod Loss
 pub mod Examples
+pub mod Rejoined

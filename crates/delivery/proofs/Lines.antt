@@ -6,7 +6,7 @@ use mathlib.Core.Bool.{Bool, true, false}
 use native.Mathlib.Omega.{arith}
 use borrow.Author.Tests.{eqb-true, eqb-false}
 use lib.Dec.{eqb}
-use lib.ListN.{length, length-append}
+use lib.ListN.{length}
 use Rattle.laws.specs.Pick.{pick}
 use Rattle.packet.specs.Packet.{Chunk, Packet, decode}
 use Rattle.packet.specs.Calls.{checkFor}

@@ -1,10 +1,10 @@
 -- Fronts and middles of lists of units. Assumes nothing.
 use Prim.Native.Nat.{ℕ, zero, suc, _+_, _-_}
-use mathlib.Core.Path.{_≡_, refl, sym, ap, _∙_}
+use mathlib.Core.Path.{_≡_, sym, ap, _∙_}
 use mathlib.Core.List.{List, [], _∷_, _++_}
 use native.Mathlib.Omega.{arith}
 use lib.ListN.{length, take, drop, length-append, length-drop}
-use lib.Seq.{take-at, take-nil, drop-nil, take-all}
+use lib.Seq.{take-at, take-nil}
 
 -- what stands in front of the last n
 pub front : (u w a : List (List ℕ)) (n : ℕ) → u ++ w ≡ a → length w ≡ n → u ≡ take (length a - n) a

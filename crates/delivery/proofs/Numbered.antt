@@ -5,19 +5,17 @@ use mathlib.Core.List.{List, [], _∷_, _++_, append-assoc, append-nil}
 use mathlib.Core.Bool.{Bool, true, false}
 use native.Mathlib.Omega.{arith}
 use borrow.Author.Tests.{eqb-true}
-use lib.Dec.{eqb, leb, lit<}
-use lib.ListN.{length, getD, take, drop}
+use lib.Dec.{eqb, lit<}
+use lib.ListN.{length, take, drop}
 use lib.Seq.{take-at, drop-at}
 use Rattle.laws.specs.Pick.{pick}
-use Rattle.laws.specs.Refuse.{refusedWith}
 use Rattle.laws.specs.Written.{written}
 use Rattle.hand.specs.Settings.{at, Allowed}
 use Rattle.hand.specs.declared.Three.{Three}
 use Rattle.hand.specs.declared.Settings.{Settings}
 use Rattle.hand.proofs.Allowed.{allowed}
 use Rattle.hand.proofs.Answer.{hand-total}
-use Rattle.packet.specs.Packet.{Chunk, Packet, decode}
-use Rattle.packet.specs.Calls.{checkFor}
+use Rattle.packet.specs.Packet.{Packet, decode}
 use Rattle.packet.proofs.Round.{Says, round}
 use Rattle.queue.specs.Queue.{noUnits}
 use Rattle.queue.proofs.Keep.{none-sound}
@@ -25,8 +23,8 @@ use Rattle.row.specs.Row.{packetAt, stepped, steps, outs, startOf, Whole}
 use Rattle.row.specs.declared.Out.{Out}
 use Rattle.row.proofs.Steps.{at-fits, whole-of, whole-steps}
 use Rattle.sender.specs.State.{indexOf, outOf, partOf, putQueue, waitingOf}
-use Rattle.sender.specs.Load.{loadTests, loadNumber, loaded, loadFor}
-use Rattle.sender.specs.Frame.{handOf, rowAt, framePackets, frameBytes, endsOf, nextFrom, frameTests, frameNumber, framed, frameFor, outFor}
+use Rattle.sender.specs.Load.{loadNumber, loaded, loadFor}
+use Rattle.sender.specs.Frame.{handOf, rowAt, framePackets, frameBytes, endsOf, nextFrom, frameNumber, framed, frameFor, outFor}
 use Rattle.sender.specs.declared.Sender.{Sender}
 use Rattle.sender.proofs.Framing.{null-outs, fit-of}
 use Rattle.demand.specs.Bytes.{packetsIn, AllRight, saying}
@@ -35,7 +33,7 @@ use Rattle.demand.proofs.Good.{Good, out-whole, after-good}
 use Rattle.demand.proofs.Rows.{chunkAt, rowChunks, row-count, frame-right, frame-saying, counted}
 use Rattle.delivery.specs.Lines.{readable, own, indexAfter, numbered}
 use Rattle.delivery.specs.Sent.{split, sentBy, sentIn}
-use Rattle.delivery.proofs.Lines.{own-append, readable-append, index-add, numbered-append}
+use Rattle.delivery.proofs.Lines.{own-append, readable-append, numbered-append}
 
 -- ---- a row
 abbrev packetFor : ℕ → ℕ → List ℕ → Out → Packet

@@ -5,13 +5,12 @@ use mathlib.Core.List.{List, [], _∷_, _++_, append-assoc, append-nil}
 use mathlib.Core.Bool.{Bool, false, true≢false}
 use native.Mathlib.Omega.{arith}
 use lib.ListN.{length, length-append}
-use Rattle.packet.specs.Packet.{Chunk, Packet}
 use Rattle.row.specs.Content.{chunkOf, restOf, begunOf, rests, begunAfter, chunks}
 use Rattle.receiver.specs.Link.{noLink}
 use Rattle.receiver.specs.Line.{Line, lineAfter, unitsBy}
 use Rattle.delivery.specs.Flow.{wholes, AllFit, Fair, Linked}
 use Rattle.delivery.specs.Lines.{lineThrough, unitsThrough, indexAfter, numbered}
-use Rattle.delivery.proofs.Step.{Passed, passed}
+use Rattle.delivery.proofs.Step.{passed}
 use Rattle.delivery.proofs.Lines.{through-append, units-append, numbered-append}
 
 pub chunks-length : (p n : ℕ) (b : Bool) (us : List (List ℕ)) → length (chunks p n b us) ≡ n

@@ -1,19 +1,19 @@
 -- Packets of a queue at a line that is not in step with it: the unit that is begun is skipped, and all units behind it come whole.
 -- Assumes nothing.
 use Prim.Native.Nat.{ℕ, zero, suc, _+_, _-_, _%_, _≤_}
-use mathlib.Core.Path.{_≡_, refl, sym, ap, ap₂, _∙_, subst}
-use mathlib.Core.List.{List, [], _∷_, _++_, append-assoc, append-nil}
-use mathlib.Core.Bool.{Bool, true, false, not, _&&_}
+use mathlib.Core.Path.{_≡_, refl, sym, ap, ap₂, _∙_}
+use mathlib.Core.List.{List, [], _∷_, _++_}
+use mathlib.Core.Bool.{Bool, true, false, not}
 use native.Mathlib.Omega.{arith}
-use lib.Dec.{leb, eqb}
+use lib.Dec.{leb}
 use lib.ListN.{length, take, drop, length-take}
 use Rattle.laws.specs.Pick.{pick}
-use Rattle.packet.specs.Packet.{Chunk, Packet, nothing}
+use Rattle.packet.specs.Packet.{Chunk, nothing}
 use Rattle.row.specs.Content.{chunkOf, restOf, begunOf, rests, begunAfter, chunks}
-use Rattle.receiver.specs.Link.{kept, nullOf, baseOf, joins, adds, linkWith, linkAfter, completes, noLink}
+use Rattle.receiver.specs.Link.{kept, nullOf, baseOf, joins, adds, linkWith, linkAfter, completes}
 use Rattle.receiver.specs.Line.{Line, grown, lineAfter, unitsBy}
 use Rattle.delivery.specs.Flow.{wholes, Fair}
-use Rattle.delivery.specs.Lines.{lineThrough, unitsThrough, indexAfter, numbered}
+use Rattle.delivery.specs.Lines.{lineThrough, unitsThrough, numbered}
 use Rattle.delivery.proofs.Step.{null-some, null-more}
 use Rattle.delivery.proofs.Passing.{idle, idle-linked, wholes-idle, wholes-length, gone}
 use Rattle.delivery.proofs.Lists.{front}

@@ -1,18 +1,17 @@
 -- C6 with C3: when a unit is delivered. Assumes nothing.
 use Prim.Native.Nat.{ℕ, zero, suc, _+_, _-_, _<_, _≤_}
-use mathlib.Core.Path.{_≡_, refl, sym, ap, ap₂, _∙_, subst}
-use mathlib.Core.List.{List, [], _∷_, _++_, append-assoc, append-nil, map}
-use mathlib.Core.Bool.{Bool, true, false, _&&_}
+use mathlib.Core.Path.{_≡_, refl, sym, ap, ap₂, _∙_}
+use mathlib.Core.List.{List, [], _∷_, _++_}
+use mathlib.Core.Bool.{Bool, true, false}
 use native.Mathlib.Omega.{arith}
 use borrow.Author.Tests.{eq-eqb}
-use lib.Dec.{eqb, leb}
+use lib.Dec.{leb}
 use lib.ListN.{length, take, length-append, length-map}
 use lib.Seq.{take-at, take-take, length-take-le}
 use Rattle.laws.specs.Pick.{pick}
 use Rattle.hand.specs.declared.Settings.{Settings}
 use Rattle.queue.specs.Queue.{units}
 use Rattle.queue.specs.Send.{one, send, later, got, shares}
-use Rattle.queue.specs.declared.Queue.{Queue}
 use Rattle.queue.proofs.Sending.{ceil}
 use Rattle.sender.specs.State.{queueOf}
 use Rattle.demand.specs.Run.{Act, load, Desk, settingsOf, numberOf, after, run, Steady, history, acceptedBy, acceptedIn, waitingIn, framesOf, Standing}

@@ -11,10 +11,9 @@ use lib.Seq.{take-all}
 use Rattle.laws.specs.Pick.{pick}
 use Rattle.packet.specs.Packet.{Chunk, nothing}
 use Rattle.row.specs.Content.{chunkOf, restOf, begunOf}
-use Rattle.receiver.specs.declared.Link.{Link}
 use Rattle.receiver.specs.Link.{kept, nullOf, baseOf, joins, adds, linkWith, linkAfter, completes}
 use Rattle.receiver.specs.Line.{Line, grown, lineAfter, unitsBy}
-use Rattle.delivery.specs.Flow.{wholes, AllSome, AllFit, Linked}
+use Rattle.delivery.specs.Flow.{wholes, AllFit, Linked}
 
 -- a packet that is not null, of n bytes, and whose index is the next one
 record Fine (l : Line) (i : ℕ) (b t : Bool) (n : ℕ) : Type 0 where

@@ -6,7 +6,7 @@ use Rattle.queue.specs.Send.{got}
 use Rattle.row.specs.Content.{rests}
 use Rattle.sender.specs.State.{queueOf}
 use Rattle.demand.specs.Run.{Act, Desk, run, history, acceptedIn}
-use Rattle.delivery.specs.Delivered.{Ear, lineAt, freshEar, hearAll}
+use Rattle.delivery.specs.Delivered.{lineAt, freshEar, hearAll}
 use Rattle.delivery.specs.Flow.{wholes}
 use Rattle.delivery.specs.Sent.{sentIn, freshDesk}
 
