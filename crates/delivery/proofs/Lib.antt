@@ -12,3 +12,4 @@ pub mod Loss
 pub mod Examples
 pub mod Rejoined
 pub mod Filler
+pub mod Gap
