@@ -11,3 +11,4 @@ pub mod Resumed
 pub mod Loss
 pub mod Examples
 pub mod Rejoined
+pub mod Left
