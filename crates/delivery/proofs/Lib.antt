@@ -12,3 +12,5 @@ pub mod Loss
 pub mod Examples
 pub mod Rejoined
 pub mod Left
+pub mod Filler
+pub mod Gap

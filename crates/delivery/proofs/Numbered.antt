@@ -36,7 +36,7 @@ use Rattle.delivery.specs.Sent.{split, sentBy, sentIn}
 use Rattle.delivery.proofs.Lines.{own-append, readable-append, numbered-append}
 
 -- ---- a row
-abbrev packetFor : ℕ → ℕ → List ℕ → Out → Packet
+abbrev pub packetFor : ℕ → ℕ → List ℕ → Out → Packet
 packetFor p id region o = record { id = id; index = o .index; chunk = chunkAt p region o }
 
 index-steps : (p n : ℕ) (o : Out) → steps p n o .index ≡ indexAfter n (o .index)
@@ -44,7 +44,7 @@ unfolding steps stepped indexAfter
 index-steps p zero o = refl
 index-steps p (suc n) o = ap (λ (i : ℕ). (i + 1) % 8) (index-steps p n o)
 
-row-more : (p id : ℕ) (region : List ℕ) (n : ℕ) (o : Out)
+pub row-more : (p id : ℕ) (region : List ℕ) (n : ℕ) (o : Out)
     → numbered id (o .index) (rowChunks p region (suc n) o) ≡ numbered id (o .index) (rowChunks p region n o) ++ (packetFor p id region (steps p n o) ∷ [])
 unfolding rowChunks numbered
 row-more p id region n o =
@@ -158,6 +158,10 @@ module _ (g : Settings) (x : Desk) (k : Good (g .p) x) (al : Allowed g) (rest : 
       go (suc (suc zero)) h = four 2 false false true false refl refl refl refl ∙ append-nil (part true 2 (N .c))
       go (suc (suc (suc id))) h = absurd (omega arith)
 
+  pub own-filler : own 3 (packetsIn (g .p) (g .n) (frameBytes g S (x .store) ++ rest))
+      ≡ numbered 3 (indexOf S 3) (rowChunks (g .p) [] F (startOf noUnits (indexOf S 3)))
+  own-filler = four 3 false false false true refl refl refl refl ∙ append-nil (numbered 3 (indexOf S 3) (rowChunks (g .p) [] F (startOf noUnits (indexOf S 3))))
+
 -- the index that it leaves
 frame-index : (g : Settings) (s : Sender) (id : ℕ) → id < 3 → indexOf (framed g s .next) id ≡ indexAfter (at (handOf g s .packets) id) (indexOf s id)
 unfolding framed nextFrom endsOf
@@ -167,7 +171,7 @@ frame-index g s (suc (suc zero)) h = index-steps (g .p) (handOf g s .packets .c)
 frame-index g s (suc (suc (suc id))) h = absurd (omega arith)
 
 -- cut as the receiver gets them
-readable-split : (p n : ℕ) (s : List ℕ) → AllRight p n s → readable p (split (p + 3) n s) ≡ packetsIn p n s
+pub readable-split : (p n : ℕ) (s : List ℕ) → AllRight p n s → readable p (split (p + 3) n s) ≡ packetsIn p n s
 unfolding readable split packetsIn AllRight
 readable-split p zero s r = refl
 readable-split p (suc n) s r =

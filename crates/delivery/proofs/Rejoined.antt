@@ -1,13 +1,13 @@
 -- A receiver that missed packets, in whatever state: once all packets of a unit come, with indexes that follow one another, the unit is
 -- delivered whole. Assumes nothing.
-use Prim.Native.Nat.{ℕ, zero, suc, _+_, _-_, _≤_, _<_}
+use Prim.Native.Nat.{ℕ, zero, suc, _-_, _≤_}
 use mathlib.Core.Path.{_≡_, refl, sym, ap, _∙_, subst}
-use mathlib.Core.List.{List, [], _∷_, map}
+use mathlib.Core.List.{List, [], _∷_}
 use mathlib.Core.Bool.{Bool, true, false, _&&_, _||_, true≢false}
 use native.Mathlib.Omega.{arith}
 use borrow.Author.Tests.{ltb-false}
 use lib.Dec.{ltb}
-use lib.ListN.{length, take, getD, length-map, List·getD-eq-default}
+use lib.ListN.{length, take, length-map, List·getD-eq-default}
 use Rattle.queue.specs.Queue.{addUp, packets}
 use Rattle.queue.specs.Send.{send, waits}
 use Rattle.queue.proofs.Sending.{pos-send, waits-send, none-waits}

@@ -57,7 +57,7 @@ real-first p u h true e = let k : length u ≤ p = borrow.Author.Tests.leb-true 
 real-first p u h false e = null-more true (length (take p u))
 
 -- ---- null packets complete nothing
-null-units : (l : Line) (i : ℕ) → unitsBy l i nothing ≡ []
+pub null-units : (l : Line) (i : ℕ) → unitsBy l i nothing ≡ []
 unfolding unitsBy completes adds joins nullOf
 null-units l i = refl
 
