@@ -47,6 +47,9 @@ fresh-is (suc zero) store h = record { content = refl; begun = refl; index = ref
 fresh-is (suc (suc zero)) store h = record { content = refl; begun = refl; index = refl }
 fresh-is (suc (suc (suc id))) store h = absurd (omega arith)
 
+pub fresh-content : (id : ℕ) (store : List ℕ) → id < 3 → contentIn id (freshDesk store) ≡ []
+fresh-content id store h = fresh-is id store h .content
+
 -- ---- the packets of id in a run from fresh: the pieces of what it accepted, numbered from 0
 pub packets-are : (p id : ℕ) (acts : List Act) (store : List ℕ) → id < 3 → length store ≡ 12288 → Steady p acts
     → own id (readable p (sentIn acts (freshDesk store)))

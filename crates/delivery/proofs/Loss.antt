@@ -62,7 +62,7 @@ not-kept l i j h e f = rw (h, e, ne-eqb i j f) (go (l .link .begun))
 
 -- ---- the packets of a queue, the first n and then the others
 module _ (p id : ℕ) where
-  rests-add : (n m : ℕ) (us : List (List ℕ)) → rests p (n + m) us ≡ rests p m (rests p n us)
+  pub rests-add : (n m : ℕ) (us : List (List ℕ)) → rests p (n + m) us ≡ rests p m (rests p n us)
   unfolding rests
   rests-add n zero us = let z : n + 0 ≡ n = omega arith in ap (λ (k : ℕ). rests p k us) z
   rests-add n (suc m) us = let z : n + suc m ≡ suc (n + m) = omega arith in ap (λ (k : ℕ). rests p k us) z ∙ ap (restOf p) (rests-add n m us)
