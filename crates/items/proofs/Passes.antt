@@ -2,7 +2,7 @@
 use mathlib.Core.Path.{_≡_, refl, sym, ap, ap₂, _∙_}
 use mathlib.Core.Bool.{Bool, true, false}
 use mathlib.Core.List.{List, [], _∷_}
-use Prim.Native.Nat.{ℕ, suc, _+_, _-_, _≤_, _<_}
+use Prim.Native.Nat.{ℕ, suc, _+_, _*_, _-_, _≤_, _<_}
 use native.Mathlib.Omega.{arith}
 use borrow.Author.Tests.{le-leb, lt-leb, eq-eqb, ne-eqb}
 use lib.Dec.{eqb, leb}
@@ -65,7 +65,7 @@ pub ruleset sizes = (size-short, size-far, size-past, size-whole)
 -- what is counted, and what is still to come, is all
 pub record Walking (S : List ℕ) (at count : ℕ) : Type 0 where
   pub inside : at ≤ length S
-  pub few : count ≤ at
+  pub few : count * 8 ≤ at
   pub stop : cutFrom (drop at S) at .stop ≡ cutOf S .stop
   pub rest : count + length (cutFrom (drop at S) at .items) ≡ length (cutOf S .items)
 

@@ -2,7 +2,7 @@
 // rounded up to whole bytes. Items follow each other; fewer than 8 bytes behind the last are padding.
 ghost use mathlib.Core.Path.{_≡_};
 ghost use mathlib.Core.Bool.{Bool};
-ghost use Prim.Native.Nat.{_+_, _^_, _≤_};
+ghost use Prim.Native.Nat.{_+_, _*_, _^_, _≤_};
 ghost use lib.ListN.{length};
 ghost use Rattle.laws.specs.Big.{numberAt, Bytes};
 ghost use Rattle.items.specs.Items.{bytesFor, sizeAt, cutOf, walkedOf, find, spotOf, shownAt};
@@ -47,7 +47,7 @@ pub fn size_at(s: &[u8], at: usize) -> usize
 
 // The offset behind the last whole item, and the number of items.
 pub fn walk(s: &[u8]) -> Walked
-    ensures { λ r. ⌜ (r ≡ walkedOf (cutOf (now (s .entry)))) × (r .stop ≤ length (now (s .entry))) ⌝ }
+    ensures { λ r. ⌜ (r ≡ walkedOf (cutOf (now (s .entry)))) × (r .stop ≤ length (now (s .entry))) × (r .count * 8 ≤ length (now (s .entry))) ⌝ }
 {
     let mut at: usize = 0;
     let mut count: usize = 0;

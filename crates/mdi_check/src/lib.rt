@@ -177,8 +177,5 @@ pub fn check(packet: &[u8]) -> Verdict
         };
     }
     let number = check_items(packet, mdi_spots::find_all(packet));
-    Verdict {
-        number,
-        place: 0,
-    }
+    Verdict { number, place: 0 }
 }

@@ -25,7 +25,7 @@ size-at-requires c κs = search needs
 
 -- src/lib.rt:56:13
 returns : tie.Need-returns Inv-loop μ-loop
-returns c = (search walking-done, c .before .before .loop .inv .inside)
+returns c = let w = c .before .before .loop .inv in let i = w .inside in let f = w .few in (search walking-done, i, omega arith)
 
 -- src/lib.rt:58:9
 add-at : tie.Need-add-at Inv-loop μ-loop
