@@ -3,8 +3,8 @@ use Prim.Native.Nat.{ℕ, _-_, _≤_, _<_}
 use mathlib.Core.Path.{_≡_, refl, sym, ap, ap₂, _∙_}
 use mathlib.Core.Bool.{Bool, true, false}
 use mathlib.Core.List.{List, [], _∷_}
-use borrow.Author.Tests.{lt-ltb, le-ltb, le-leb, lt-leb}
-use lib.Dec.{ltb, leb}
+use borrow.Author.Tests.{lt-ltb, le-ltb, le-leb, lt-leb, ne-eqb}
+use lib.Dec.{ltb, leb, eqb}
 use lib.ListN.{length}
 use Rattle.laws.specs.Limits.{longest}
 use Rattle.laws.specs.Pick.{pick}
@@ -18,7 +18,7 @@ use Rattle.mdi_spots.specs.Spotted.{spotsOf, missingAt, badLengthAt}
 use Rattle.mdi_spots.specs.declared.Spots.{Spots}
 use Rattle.mdi_spots.proofs.Items.{missing-is, length-is}
 use Rattle.mdi_check.specs.Conditions.{badValue, badFac, badSdc, unserved, badDescription, badStreams}
-use Rattle.mdi_check.specs.Refusals.{itemTests, testsFor, checkFor}
+use Rattle.mdi_check.specs.Refusals.{itemTests, nowhere, testsFor, checkFor}
 use Rattle.mdi_check.specs.declared.Verdict.{Verdict}
 
 -- ---- 4 to 11
@@ -90,19 +90,23 @@ items-place is =
     (same-place (unserved is) _
     (same-place (badDescription is) _ (same-place (badStreams is) 0 refl)))))))
 
-module _ (p : List ℕ) where
-  pub way-1 : 65528 < length p → _≡_ {A = Verdict} (record { number = 1; place = 0 }) (checkFor p)
+-- a refusal's answer
+abbrev refusal : ℕ → ℕ → Verdict
+refusal number place = record { number = number; place = place; spots = nowhere }
+
+module _ (p : List ℕ) (v : Verdict) where
+  pub way-1 : 65528 < length p → v ≡ refusal 1 0 → v ≡ checkFor p
   unfolding checkFor testsFor
-  way-1 h = rw (lt-ltb 65528 (length p) h) refl
+  way-1 h e = e ∙ rw (lt-ltb 65528 (length p) h) refl
 
   module _ (h1 : length p ≤ 65528) (w : Walked) (ew : w ≡ walkedOf (cutOf p)) where
     f2 : cutOf p .stop ≡ w .stop
     unfolding walkedOf
     f2 = sym (ap (λ (x : Walked). x .stop) ew)
 
-    pub way-2 : 8 ≤ length p - w .stop → _≡_ {A = Verdict} (record { number = 2; place = w .stop }) (checkFor p)
+    pub way-2 : 8 ≤ length p - w .stop → v ≡ refusal 2 (w .stop) → v ≡ checkFor p
     unfolding checkFor testsFor
-    way-2 h = rw (le-ltb 65528 (length p) h1, f2, le-leb 8 (length p - w .stop) h) refl
+    way-2 h e = e ∙ rw (le-ltb 65528 (length p) h1, f2, le-leb 8 (length p - w .stop) h) refl
 
     module _ (h2 : length p - w .stop < 8) (r : Repeat) (er : r ≡ repeatFor p) where
       f3 : r ≡ repeatOf (twice (cutOf p .items))
@@ -117,10 +121,19 @@ module _ (p : List ℕ) where
       unfolding repeatOf
       at = sym (ap (λ (x : Repeat). x .place) f3)
 
-      pub way-3 : r .found ≡ true → _≡_ {A = Verdict} (record { number = 3; place = r .place }) (checkFor p)
+      pub way-3 : r .found ≡ true → v ≡ refusal 3 (r .place) → v ≡ checkFor p
       unfolding checkFor testsFor
-      way-3 h = rw (le-ltb 65528 (length p) h1, f2, lt-leb 8 (length p - w .stop) h2, there, at, h) refl
+      way-3 h e = e ∙ rw (le-ltb 65528 (length p) h1, f2, lt-leb 8 (length p - w .stop) h2, there, at, h) refl
 
-      pub way-on : r .found ≡ false → (n : ℕ) → n ≡ refusedWith (itemTests (cutOf p .items)) → _≡_ {A = Verdict} (record { number = n; place = 0 }) (checkFor p)
-      unfolding checkFor testsFor
-      way-on h n e = rw (le-ltb 65528 (length p) h1, f2, lt-leb 8 (length p - w .stop) h2, there, h, items-place (cutOf p .items), ← e) refl
+      module _ (h3 : r .found ≡ false) (n : ℕ) (en : n ≡ refusedWith (itemTests (cutOf p .items))) where
+        on : checkFor p ≡ record { number = n; place = 0; spots = pick (eqb n 0) (spotsOf (cutOf p .items)) nowhere }
+        unfolding checkFor testsFor
+        on = rw (le-ltb 65528 (length p) h1, f2, lt-leb 8 (length p - w .stop) h2, there, h3, items-place (cutOf p .items), ← en) refl
+
+        pub way-on : (n ≡ 0 → ⊥) → v ≡ refusal n 0 → v ≡ checkFor p
+        way-on h e = e ∙ sym (on ∙ rw (ne-eqb n 0 h) refl)
+
+pub way-done : (p : List ℕ) → length p ≤ 65528 → (w : Walked) → w ≡ walkedOf (cutOf p) → length p - w .stop < 8 → (r : Repeat) → r ≡ repeatFor p → r .found ≡ false
+    → (n : ℕ) → n ≡ refusedWith (itemTests (cutOf p .items)) → n ≡ 0 → (t : Spots) → t ≡ spotsOf (cutOf p .items)
+    → _≡_ {A = Verdict} (record { number = 0; place = 0; spots = t }) (checkFor p)
+way-done p h1 w ew h2 r er h3 n en z t et = rw (on p (record { number = 0; place = 0; spots = t }) h1 w ew h2 r er h3 n en, z, et) refl

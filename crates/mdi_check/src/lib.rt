@@ -12,12 +12,38 @@ ghost use Prim.Native.Nat.{_+_, _<_};
 ghost use Rattle.items.specs.Items.{cutOf, bytesFor};
 ghost use Rattle.mdi_spots.specs.Spotted.{spotsOf, away};
 ghost use Rattle.mdi_check.specs.Conditions.{protocol, knownMode, onTime, badValue, badFac, badSdc, unserved, badDescription, badStreams};
-ghost use Rattle.mdi_check.specs.Refusals.{itemTests, checkFor};
+ghost use Rattle.mdi_check.specs.Refusals.{itemTests, nowhere, checkFor};
 
-// Number 0: the packet is well formed. The place is an offset in the packet for 2 and 3, else 0.
+// Number 0: the packet is well formed, and its known items stand at these spots. The place is an offset in the packet for 2 and 3, else
+// 0.
 pub struct Verdict {
     pub number: u32,
     pub place: usize,
+    pub spots: Spots,
+}
+
+fn refused(number: u32, place: usize) -> Verdict
+    ensures { λ r. ⌜ r ≡ record { number = number; place = place; spots = nowhere } ⌝ }
+{
+    let away = Spot { start: 0, bits: 0 };
+    let spots = Spots {
+        ptr: away,
+        dlfc: away,
+        fac: away,
+        sdc: away,
+        sdci: away,
+        robm: away,
+        str0: away,
+        str1: away,
+        str2: away,
+        str3: away,
+        tist: away,
+    };
+    Verdict {
+        number,
+        place,
+        spots,
+    }
 }
 
 fn is_there(x: Spot) -> bool
@@ -165,25 +191,24 @@ pub fn check(packet: &[u8]) -> Verdict
     ensures { λ r. ⌜ r ≡ checkFor (now (packet .entry)) ⌝ }
 {
     if 65528 < packet.len() {
-        return Verdict {
-            number: 1,
-            place: 0,
-        };
+        return refused(1, 0);
     }
     let w = items::walk(packet);
     if 8 <= packet.len() - w.stop {
-        return Verdict {
-            number: 2,
-            place: w.stop,
-        };
+        return refused(2, w.stop);
     }
     let again = repeats::first_again(packet);
     if again.found {
-        return Verdict {
-            number: 3,
-            place: again.place,
-        };
+        return refused(3, again.place);
     }
-    let number = check_items(packet, mdi_spots::find_all(packet));
-    Verdict { number, place: 0 }
+    let spots = mdi_spots::find_all(packet);
+    let number = check_items(packet, spots);
+    if number != 0 {
+        return refused(number, 0);
+    }
+    Verdict {
+        number: 0,
+        place: 0,
+        spots,
+    }
 }
