@@ -132,3 +132,7 @@ module _ (p : List ℕ) (v : Verdict) (e : v ≡ checkFor p) where
           pub stream-over : (n ≡ 3 → ⊥) → [] ≡ streamFor p n
           unfolding streamOf
           stream-over h = sym (here ∙ rw (ne-eqb n 0 h0, ne-eqb n 1 h1, ne-eqb n 2 h2, ne-eqb n 3 h) refl)
+
+pub time-spot : (S : List ℕ) (t : Spots) → t ≡ spotsOf (cutOf S .items) → t .tist ≡ spotOf (find tist (cutOf S .items))
+unfolding spotsOf
+time-spot S t e = ap (λ (r : Spots). r .tist) e
