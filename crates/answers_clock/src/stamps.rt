@@ -3,36 +3,23 @@ use cases::answer;
 use cases::case;
 use clock::Stamp;
 
-fn wide(x: u16) -> u64 {
-    x as u64
-}
-
 fn flag(yes: bool) -> u64 {
     if yes { 1 } else { 0 }
-}
-
-// The timestamp at a position of the body.
-fn stamp_at(body: &[u8], at: usize) -> Stamp {
-    Stamp {
-        utco: fields::read16(body, at),
-        seconds: fields::read64(body, case::past(at, 2)),
-        milliseconds: fields::read16(body, case::past(at, 10)),
-    }
 }
 
 // The answer of a call that gives a timestamp.
 fn told(out: &mut [u8], number: u32, t: Stamp) -> usize {
     let at = answer::begin(out, number, 0, 3);
-    let at = answer::three(out, at, wide(t.utco), t.seconds, wide(t.milliseconds));
+    let at = case_values::tell_stamp(out, at, t);
     let at = answer::buffers(out, at, 0);
     answer::end(out, at)
 }
 
 pub(crate) fn write(body: &[u8], one: &mut [u8], out: &mut [u8]) -> usize {
-    let s = case::buffer(body, 12, one);
+    let s = case::buffer(body, case_values::STAMP, one);
     if case::ends(s, body) {
         let dst = case::front_mut(one, s.len);
-        let done = clock::encode(stamp_at(body, 0), dst);
+        let done = clock::encode(case_values::stamp_at(body, 0), dst);
         return answer::written(out, done.number, 0, done.length as u64, dst);
     }
     answer::none(out)
@@ -51,7 +38,7 @@ pub(crate) fn next(body: &[u8], out: &mut [u8]) -> usize {
     if body.len() != 12 {
         return answer::none(out);
     }
-    let given = clock::next(stamp_at(body, 0));
+    let given = clock::next(case_values::stamp_at(body, 0));
     told(out, given.number, given.stamp)
 }
 
@@ -59,6 +46,9 @@ pub(crate) fn follows(body: &[u8], out: &mut [u8]) -> usize {
     if body.len() != 24 {
         return answer::none(out);
     }
-    let verdict = clock::follows(stamp_at(body, 0), stamp_at(body, 12));
+    let verdict = clock::follows(
+        case_values::stamp_at(body, 0),
+        case_values::stamp_at(body, 12),
+    );
     answer::number_and_value(out, verdict.number, 0, flag(verdict.yes))
 }

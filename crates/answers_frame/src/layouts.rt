@@ -1,5 +1,4 @@
 // Calls 14 and 15: the layout of a frame, as values and as the program's text.
-use crate::descriptions;
 use cases::answer;
 use cases::case;
 use description::Part;
@@ -22,14 +21,14 @@ fn parts(out: &mut [u8], at: usize, p: Places) -> usize {
 }
 
 pub(crate) fn layout(body: &[u8], out: &mut [u8]) -> usize {
-    if body.len() != 8 + descriptions::SIZE + 1 {
+    if body.len() != 8 + case_values::DESCRIPTION + 1 {
         return answer::none(out);
     }
     let capacity = fields::read64(body, 0) as usize;
     let p = description::layout(
         capacity,
-        descriptions::description_at(body, 8),
-        case::byte(body, 8 + descriptions::SIZE),
+        case_values::description_at(body, 8),
+        case::byte(body, 8 + case_values::DESCRIPTION),
     );
     let at = answer::begin(out, p.number, 0, 18);
     let at = parts(out, at, p);

@@ -1,18 +1,17 @@
 // Calls 16 and 17: a frame built from its streams, and cut into them.
-use crate::descriptions;
 use cases::answer;
 use cases::case;
 use description::Description;
 
 // What stands before the buffers: capacity, description, MSC mode.
-const HEAD: usize = 8 + descriptions::SIZE + 1;
+const HEAD: usize = 8 + case_values::DESCRIPTION + 1;
 
 fn capacity_in(body: &[u8]) -> usize {
     fields::read64(body, 0) as usize
 }
 
 fn described(body: &[u8]) -> Description {
-    descriptions::description_at(body, 8)
+    case_values::description_at(body, 8)
 }
 
 fn mode_in(body: &[u8]) -> u8 {

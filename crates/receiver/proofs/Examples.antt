@@ -16,13 +16,13 @@ use Rattle.receiver.specs.Receiver.{fresh, broken, answerBy, answerIn, t
 use Rattle.receiver.specs.Bytes.{openOf, deliveredBy, droppedBy, skippedBy, goneOf, deliveredOf, droppedOf, skippedOf}
 
 -- id 0 with its next index, and an open unit of so many bytes or none
-abbrev open-with : ℕ → ℕ → Receiver
+abbrev pub open-with : ℕ → ℕ → Receiver
 open-with index n = record { link = record { heard = true; index = index; begun = true; len = n } ∷ noLink ∷ noLink ∷ noLink ∷ [] }
 
 abbrev shut-with : ℕ → Receiver
 shut-with index = record { link = record { heard = true; index = index; begun = false; len = 0 } ∷ noLink ∷ noLink ∷ noLink ∷ [] }
 
-abbrev gives : Receiver → List ℕ → Told
+abbrev pub gives : Receiver → List ℕ → Told
 gives r s = stepFor 4 r s 16384
 
 -- a unit begins; the next packet but one comes (a break: dropped, and skipped); a new first flag; a null packet leaves the unit open

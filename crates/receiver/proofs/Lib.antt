@@ -2,3 +2,5 @@ pub mod Links
 pub mod Steps
 pub mod Balance
 pub mod Examples
+pub mod Settled
+pub mod Sound

@@ -2,3 +2,4 @@ pub mod Link
 pub mod Receiver
 pub mod Line
 pub mod Bytes
+pub mod Run

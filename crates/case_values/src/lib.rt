@@ -1,0 +1,85 @@
+// Values that several answering programs read from a case and write to an answer (docs/CASES.md, "Values that several calls share").
+// As with the framing, the promises say that positions stay within bounds; what is read and written is compared with the second program.
+ghost use Prim.Native.Nat.{_≤_};
+use cases::answer;
+use cases::case;
+use clock::Stamp;
+use description::Description;
+use description::Lengths;
+use description::Levels;
+
+// Bytes that a description and a timestamp take in a body.
+pub const DESCRIPTION: usize = 19;
+
+pub const STAMP: usize = 12;
+
+fn wide8(x: u8) -> u64 {
+    x as u64
+}
+
+fn wide16(x: u16) -> u64 {
+    x as u64
+}
+
+fn lengths_at(body: &[u8], at: usize) -> Lengths {
+    Lengths {
+        a: fields::read16(body, at),
+        b: fields::read16(body, case::past(at, 2)),
+    }
+}
+
+// The description at a position of the body.
+pub fn description_at(body: &[u8], at: usize) -> Description {
+    let s0 = lengths_at(body, case::past(at, 3));
+    let s1 = lengths_at(body, case::past(at, 7));
+    let s2 = lengths_at(body, case::past(at, 11));
+    let s3 = lengths_at(body, case::past(at, 15));
+    let stream = [s0, s1, s2, s3];
+    let level = Levels {
+        a: case::byte(body, at),
+        b: case::byte(body, case::past(at, 1)),
+    };
+    Description {
+        level,
+        count: case::byte(body, case::past(at, 2)) as usize,
+        stream,
+    }
+}
+
+fn pair(out: &mut [u8], at: usize, l: Lengths) -> usize
+    ensures { λ r. ⌜ r ≤ 1048576 ⌝ }
+{
+    let next = answer::value(out, at, wide16(l.a));
+    answer::value(out, next, wide16(l.b))
+}
+
+// The eleven values of a description. Answers where the next part goes.
+pub fn tell_description(out: &mut [u8], at: usize, d: Description) -> usize
+    ensures { λ r. ⌜ r ≤ 1048576 ⌝ }
+{
+    let at = answer::three(out, at, wide8(d.level.a), wide8(d.level.b), d.count as u64);
+    let s0 = d.stream[0];
+    let s1 = d.stream[1];
+    let s2 = d.stream[2];
+    let s3 = d.stream[3];
+    let at = pair(out, at, s0);
+    let at = pair(out, at, s1);
+    let at = pair(out, at, s2);
+    pair(out, at, s3)
+}
+
+// The timestamp at a position of the body.
+pub fn stamp_at(body: &[u8], at: usize) -> Stamp {
+    Stamp {
+        utco: fields::read16(body, at),
+        seconds: fields::read64(body, case::past(at, 2)),
+        milliseconds: fields::read16(body, case::past(at, 10)),
+    }
+}
+
+// The three values of a timestamp.
+pub fn tell_stamp(out: &mut [u8], at: usize, t: Stamp) -> usize
+    ensures { λ r. ⌜ r ≤ 1048576 ⌝ }
+{
+    answer::three(out, at, wide16(t.utco), t.seconds, wide16(t.milliseconds))
+}
