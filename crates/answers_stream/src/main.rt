@@ -1,4 +1,6 @@
-// Answers the cases of the shared stream (calls 33 to 35 of docs/CASES.md) through the library. Nothing here decides an answer.
+// Answers the cases of the shared stream (calls 33 to 37 of docs/CASES.md) through the library. Nothing here decides an answer.
+mod receptions;
+mod runs;
 mod scripts;
 mod settings;
 
@@ -19,6 +21,8 @@ fn answer_to(
         33 => settings::check(body, out),
         34 => settings::hand_out(body, out),
         35 => scripts::script(body, one, two, three, out),
+        36 => receptions::script(body, one, two, out),
+        37 => runs::through(body, one, two, three, out),
         _ => answer::none(out),
     }
 }

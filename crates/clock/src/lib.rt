@@ -31,7 +31,7 @@ pub struct Verdict {
 }
 
 // 6 where a field is too large for its bits or the milliseconds are over 999, else 0.
-fn check(t: Stamp) -> u32
+pub fn check(t: Stamp) -> u32
     ensures { λ r. ⌜ r ≡ refusedWith (fieldTests t) ⌝ }
 {
     if 16384 <= t.utco {

@@ -288,11 +288,11 @@ module _ (g : Settings) (x : Desk) (k : Good (g .p) x) (al : Allowed g) where
       some-left (g .p) (al .low) (partOf (x .store) id) (part-full id h) (outOf (x .state) id) (out-whole (g .p) x k id h) j (omega arith)
 
 -- ---- one call, seen from queue id: what it said, what it leaves
-record Went (p id : ℕ) (a : Act) (x : Desk) : Type 0 where
-  said : saidBy id a x ≡ chunks p (got (turnOf id a x)) (begunIn (queueOf (x .state) id)) (contentIn id x)
-  left : contentIn id (after a x) ≡ rests p (got (turnOf id a x)) (contentIn id x) ++ acceptedBy id a x
-  begun : begunIn (queueOf (after a x .state) id) ≡ begunAfter p (got (turnOf id a x)) (begunIn (queueOf (x .state) id)) (contentIn id x)
-  some : (j : ℕ) → j < got (turnOf id a x) → rests p j (contentIn id x) ≡ [] → ⊥
+pub record Went (p id : ℕ) (a : Act) (x : Desk) : Type 0 where
+  pub said : saidBy id a x ≡ chunks p (got (turnOf id a x)) (begunIn (queueOf (x .state) id)) (contentIn id x)
+  pub left : contentIn id (after a x) ≡ rests p (got (turnOf id a x)) (contentIn id x) ++ acceptedBy id a x
+  pub begun : begunIn (queueOf (after a x .state) id) ≡ begunAfter p (got (turnOf id a x)) (begunIn (queueOf (x .state) id)) (contentIn id x)
+  pub some : (j : ℕ) → j < got (turnOf id a x) → rests p j (contentIn id x) ≡ [] → ⊥
 
 got-load : (b : Bool) (n : ℕ) → got (pick b (loaded n ∷ []) []) ≡ 0
 unfolding got
@@ -378,11 +378,11 @@ frame-went g id out x h k = go (eqb (refusedWith (frameTests g (x .state) (lengt
     go true e = frame-passed g id out x h k e (allowed g (fit-of g (x .state) (length (x .store)) (length out) (eqb-true _ _ e) .allowed-in))
     go false e = frame-none g id out x e
 
-went : (p id : ℕ) (a : Act) (x : Desk) → id < 3 → settingsOf a .p ≡ p → Good p x → Went p id a x
+pub went : (p id : ℕ) (a : Act) (x : Desk) → id < 3 → settingsOf a .p ≡ p → Good p x → Went p id a x
 went p id (load g j unit) x h e k = load-went p g id j unit x k
 went p id (frame g out) x h e k = subst (λ (q : ℕ). Went q id (frame g out) x) e (frame-went g id out x h (subst (λ (q : ℕ). Good q x) (sym e) k))
 
-got-append : (h h′ : List Turn) → got (h ++ h′) ≡ got h + got h′
+pub got-append : (h h′ : List Turn) → got (h ++ h′) ≡ got h + got h′
 unfolding got
 got-append [] h′ = omega arith
 got-append (loaded x ∷ h) h′ = got-append h h′

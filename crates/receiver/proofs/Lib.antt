@@ -1,2 +1,4 @@
 pub mod Links
 pub mod Steps
+pub mod Balance
+pub mod Examples

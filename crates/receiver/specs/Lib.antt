@@ -1,3 +1,4 @@
 pub mod Link
 pub mod Receiver
 pub mod Line
+pub mod Bytes

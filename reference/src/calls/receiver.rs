@@ -1,4 +1,4 @@
-//! Call 50: a receiver that is given packets, step by step (document 01, "Packets, queues and receiver").
+//! Call 36: a receiver that is given packets, step by step (document 01, "Packets, queues and receiver").
 
 use super::packet::{self, packed, Handed, NO_P};
 use super::Call;
@@ -17,7 +17,7 @@ use std::collections::VecDeque;
 
 /// Its values have no names: each step has four, and the receiver 16.
 pub const SCRIPT: Call = Call {
-    code: 50,
+    code: 36,
     name: "receiver script",
     fixed,
     random: random_script,

@@ -1,4 +1,4 @@
-//! Call 51: whole runs from a fresh sender to a fresh receiver (document 01, "Packets, queues and receiver").
+//! Call 37: whole runs from a fresh sender to a fresh receiver (document 01, "Packets, queues and receiver").
 
 use super::settings::{self, Set};
 use super::Call;
@@ -17,7 +17,7 @@ use crate::sender::{Sender, Settings, QUEUE_BYTES, STORE_BYTES, UNITS};
 
 /// Its values have no names: each step has four.
 pub const SCRIPT: Call = Call {
-    code: 51,
+    code: 37,
     name: "through script",
     fixed,
     random: random_run,

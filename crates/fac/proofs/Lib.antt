@@ -1,0 +1,3 @@
+pub mod Fits
+pub mod Ways
+pub mod Back

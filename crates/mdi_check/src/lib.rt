@@ -1,0 +1,214 @@
+// The check of an MDI packet (01, "MDI packet" and "Numbers given back"): the lowest number whose condition holds over the whole packet,
+// and its place.
+use description::Lengths;
+use items::Spot;
+use mdi_spots::Spots;
+ghost use mathlib.Core.Path.{_≡_};
+ghost use mathlib.Core.Bool.{not};
+ghost use Rattle.laws.specs.Refuse.{refusedWith};
+ghost use Rattle.laws.specs.Big.{numberAt};
+ghost use lib.Dec.{eqb};
+ghost use Prim.Native.Nat.{_+_, _<_};
+ghost use Rattle.items.specs.Items.{cutOf, bytesFor};
+ghost use Rattle.mdi_spots.specs.Spotted.{spotsOf, away};
+ghost use Rattle.mdi_check.specs.Conditions.{protocol, knownMode, onTime, badValue, badFac, badSdc, unserved, badDescription, badStreams};
+ghost use Rattle.mdi_check.specs.Refusals.{itemTests, nowhere, checkFor};
+
+// Number 0: the packet is well formed, and its known items stand at these spots. The place is an offset in the packet for 2 and 3, else
+// 0.
+pub struct Verdict {
+    pub number: u32,
+    pub place: usize,
+    pub spots: Spots,
+}
+
+fn refused(number: u32, place: usize) -> Verdict
+    ensures { λ r. ⌜ r ≡ record { number = number; place = place; spots = nowhere } ⌝ }
+{
+    let away = Spot { start: 0, bits: 0 };
+    let spots = Spots {
+        ptr: away,
+        dlfc: away,
+        fac: away,
+        sdc: away,
+        sdci: away,
+        robm: away,
+        str0: away,
+        str1: away,
+        str2: away,
+        str3: away,
+        tist: away,
+    };
+    Verdict {
+        number,
+        place,
+        spots,
+    }
+}
+
+fn is_there(x: Spot) -> bool
+    ensures { λ r. ⌜ r ≡ not (away x) ⌝ }
+{
+    !(x.start == 0)
+}
+
+// The number of four letters.
+fn number_of(letters: &[u8]) -> u32
+    ensures { λ r. ⌜ r ≡ numberAt 4 (now (letters .entry)) 0 ⌝ }
+{
+    fields::read32(letters, 0)
+}
+
+fn is_protocol(v: &[u8]) -> bool
+    ensures { λ r. ⌜ r ≡ protocol (now (v .entry)) ⌝ }
+{
+    (fields::read32(v, 0) == number_of(b"DMDI")) & (fields::read16(v, 4) == 0)
+}
+
+fn is_known_mode(v: &[u8]) -> bool
+    ensures { λ r. ⌜ r ≡ knownMode (now (v .entry)) ⌝ }
+{
+    if v.len() == 0 {
+        return true;
+    }
+    v[0] <= 3
+}
+
+fn is_on_time(v: &[u8]) -> bool
+    ensures { λ r. ⌜ r ≡ onTime (now (v .entry)) ⌝ }
+{
+    let g = clock::decode(v);
+    !(g.number == 6)
+}
+
+// 6
+fn bad_value(s: &[u8], t: Spots) -> bool
+    requires { ⌜ t ≡ spotsOf (cutOf (now s) .items) ⌝ }
+    ensures { λ r. ⌜ r ≡ badValue (cutOf (now (s .entry)) .items) ⌝ }
+{
+    (is_there(t.ptr) & !is_protocol(items::value(s, t.ptr)))
+        | (is_there(t.robm) & !is_known_mode(items::value(s, t.robm)))
+        | (is_there(t.tist) & !is_on_time(items::value(s, t.tist)))
+}
+
+// 7
+fn bad_fac(s: &[u8], t: Spots) -> bool
+    requires { ⌜ t ≡ spotsOf (cutOf (now s) .items) ⌝ }
+    ensures { λ r. ⌜ r ≡ badFac (cutOf (now (s .entry)) .items) ⌝ }
+{
+    is_there(t.fac) & !fac::is_sealed(items::value(s, t.fac))
+}
+
+// 8
+fn bad_sdc(s: &[u8], t: Spots) -> bool
+    requires { ⌜ t ≡ spotsOf (cutOf (now s) .items) ⌝ }
+    ensures { λ r. ⌜ r ≡ badSdc (cutOf (now (s .entry)) .items) ⌝ }
+{
+    is_there(t.sdc) & !sdc::is_sealed(items::value(s, t.sdc))
+}
+
+// 9
+fn is_unserved(s: &[u8], t: Spots) -> bool
+    requires { ⌜ t ≡ spotsOf (cutOf (now s) .items) ⌝ }
+    ensures { λ r. ⌜ r ≡ unserved (cutOf (now (s .entry)) .items) ⌝ }
+{
+    is_there(t.fac) & fac::not_served(fac::of_value(items::value(s, t.fac)))
+}
+
+// 10
+fn bad_description(s: &[u8], t: Spots) -> bool
+    requires { ⌜ t ≡ spotsOf (cutOf (now s) .items) ⌝ }
+    ensures { λ r. ⌜ r ≡ badDescription (cutOf (now (s .entry)) .items) ⌝ }
+{
+    let f = fac::of_value(items::value(s, t.fac));
+    let d = description::of_value(items::value(s, t.sdci));
+    is_there(t.sdci) & description::ill_formed(d, f.msc)
+}
+
+fn wide(x: u16) -> usize
+    ensures { λ r. ⌜ (r ≡ x) × (r < 65536) ⌝ }
+{
+    x as usize
+}
+
+// Whether a value of so many bits has as many bytes as both parts of a stream.
+fn fills(bits: u32, l: Lengths) -> bool
+    ensures { λ r. ⌜ r ≡ eqb (bytesFor bits) (l .a + l .b) ⌝ }
+{
+    items::bytes(bits) == wide(l.a) + wide(l.b)
+}
+
+// 11
+fn bad_streams(s: &[u8], t: Spots) -> bool
+    requires { ⌜ t ≡ spotsOf (cutOf (now s) .items) ⌝ }
+    ensures { λ r. ⌜ r ≡ badStreams (cutOf (now (s .entry)) .items) ⌝ }
+{
+    let d = description::of_value(items::value(s, t.sdci));
+    let s0 = d.stream[0];
+    let s1 = d.stream[1];
+    let s2 = d.stream[2];
+    let s3 = d.stream[3];
+    let same = fills(t.str0.bits, s0)
+        & fills(t.str1.bits, s1)
+        & fills(t.str2.bits, s2)
+        & fills(t.str3.bits, s3);
+    is_there(t.sdci) & !same
+}
+
+// 4 to 11.
+fn check_items(s: &[u8], t: Spots) -> u32
+    requires { ⌜ t ≡ spotsOf (cutOf (now s) .items) ⌝ }
+    ensures { λ r. ⌜ r ≡ refusedWith (itemTests (cutOf (now (s .entry)) .items)) ⌝ }
+{
+    if mdi_spots::missing(t) {
+        return 4;
+    }
+    if mdi_spots::bad_length(t) {
+        return 5;
+    }
+    if bad_value(s, t) {
+        return 6;
+    }
+    if bad_fac(s, t) {
+        return 7;
+    }
+    if bad_sdc(s, t) {
+        return 8;
+    }
+    if is_unserved(s, t) {
+        return 9;
+    }
+    if bad_description(s, t) {
+        return 10;
+    }
+    if bad_streams(s, t) {
+        return 11;
+    }
+    0
+}
+
+pub fn check(packet: &[u8]) -> Verdict
+    ensures { λ r. ⌜ r ≡ checkFor (now (packet .entry)) ⌝ }
+{
+    if 65528 < packet.len() {
+        return refused(1, 0);
+    }
+    let w = items::walk(packet);
+    if 8 <= packet.len() - w.stop {
+        return refused(2, w.stop);
+    }
+    let again = repeats::first_again(packet);
+    if again.found {
+        return refused(3, again.place);
+    }
+    let spots = mdi_spots::find_all(packet);
+    let number = check_items(packet, spots);
+    if number != 0 {
+        return refused(number, 0);
+    }
+    Verdict {
+        number: 0,
+        place: 0,
+        spots,
+    }
+}

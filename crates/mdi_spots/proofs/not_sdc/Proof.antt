@@ -1,0 +1,14 @@
+use Rattle.mdi_spots.specs.Spotted.{wrongAt}
+use mathlib.Core.Path.{refl}
+use Rattle.mdi_spots.proofs.not_sdc.Statement.{statement}
+use Rattle.mdi_spots.proofs.not_sdc.Tie as tie
+use Rattle.mdi_spots.proofs.not_sdc.Reads as reads
+use Rattle.mdi_spots.proofs.not_sdc.Lts as lts
+
+-- src/lib.rt:72:1
+returns : tie.Need-returns
+unfolding wrongAt
+returns c = refl
+
+pub not-sdc-spec : {M : Type 1} → statement M
+not-sdc-spec = tie.close (tie.spec returns)

@@ -1,0 +1,51 @@
+-- What this crate's calls answer: where the known items stand, and 4 and 5 of Table.antt asked of these spots. That they are the
+-- conditions over the items is proofs/Items.antt. Assumes nothing.
+use Prim.Native.Nat.{ℕ}
+use mathlib.Core.Bool.{Bool, _&&_, _||_, not}
+use mathlib.Core.List.{List}
+use lib.Dec.{eqb}
+use Rattle.items.specs.Items.{Item, find, spotOf}
+use Rattle.items.specs.declared.Spot.{Spot}
+use Rattle.mdi_spots.specs.Names.{ptr, dlfc, fac, sdc, sdci, robm, str0, str1, str2, str3, tist}
+use Rattle.mdi_spots.specs.Table.{exactly, wholeBytes, sdcBits, sdciBits}
+use Rattle.mdi_spots.specs.declared.Spots.{Spots}
+
+unfoldable pub spotsOf : List Item → Spots
+spotsOf is =
+    record {
+      ptr = spotOf (find ptr is);
+      dlfc = spotOf (find dlfc is);
+      fac = spotOf (find fac is);
+      sdc = spotOf (find sdc is);
+      sdci = spotOf (find sdci is);
+      robm = spotOf (find robm is);
+      str0 = spotOf (find str0 is);
+      str1 = spotOf (find str1 is);
+      str2 = spotOf (find str2 is);
+      str3 = spotOf (find str3 is);
+      tist = spotOf (find tist is);
+    }
+
+-- no value starts at 0: a header stands before it
+abbrev pub away : Spot → Bool
+away x = eqb (x .start) 0
+
+unfoldable pub wrongAt : (ℕ → Bool) → Spot → Bool
+wrongAt ok x = not (away x) && not (ok (x .bits))
+
+unfoldable pub missingAt : Spots → Bool
+missingAt t = away (t .ptr) || away (t .dlfc) || away (t .fac) || away (t .sdci) || away (t .robm)
+
+unfoldable pub badLengthAt : Spots → Bool
+badLengthAt t =
+    wrongAt (exactly 64) (t .ptr)
+    || wrongAt (exactly 32) (t .dlfc)
+    || wrongAt (exactly 72) (t .fac)
+    || wrongAt sdcBits (t .sdc)
+    || wrongAt sdciBits (t .sdci)
+    || wrongAt (exactly 8) (t .robm)
+    || wrongAt wholeBytes (t .str0)
+    || wrongAt wholeBytes (t .str1)
+    || wrongAt wholeBytes (t .str2)
+    || wrongAt wholeBytes (t .str3)
+    || wrongAt (exactly 64) (t .tist)

@@ -1,0 +1,28 @@
+use Rattle.repeats.proofs.Names.{arrays-fit}
+use native.Mathlib.Omega.{arith}
+use borrow.Author.Needs.{needs}
+use Rattle.repeats.proofs.among_many.Statement.{statement}
+use Rattle.repeats.proofs.among_many.Tie as tie
+use Rattle.repeats.proofs.among_many.Reads as reads
+use Rattle.repeats.proofs.among_many.Lts as lts
+use Rattle.repeats.proofs.store.Reads as store-reads
+
+-- src/lib.rt:115:14
+slice-aggregate-store : tie.Need-slice-aggregate-store
+slice-aggregate-store c = search needs
+
+-- src/lib.rt:115:25
+slice-aggregate-store-2 : tie.Need-slice-aggregate-store-2
+slice-aggregate-store-2 c = search needs
+
+-- src/lib.rt:115:5
+store-requires : tie.Need-store-requires
+store-requires c κs = arrays-fit _ 8192 16384 (c .before .before .before .pre) (omega arith) (omega arith)
+
+-- src/lib.rt:109:1
+returns : tie.Need-returns
+returns c = search needs
+
+pub among-many-spec : {M : Type 1} → statement M
+among-many-spec =
+    tie.close (tie.spec slice-aggregate-store slice-aggregate-store-2 store-requires returns)

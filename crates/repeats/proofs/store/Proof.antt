@@ -1,0 +1,156 @@
+use Rattle.repeats.proofs.Names.{Seeing, seeing-none, seen-all, can-insert, seen-again, seeing-more}
+use Rattle.items.proofs.Rule.{at-fits}
+use borrow.Author.Needs.{needs}
+use native.Mathlib.Omega.{arith}
+use lib.ListN.{length}
+use Prim.Native.Nat.{ℕ, _-_, _<_}
+use mathlib.Core.Path.{_≡_, refl, _∙_}
+use Rattle.repeats.proofs.store.Statement.{statement}
+use Rattle.repeats.proofs.store.Tie as tie
+use Rattle.repeats.proofs.store.Reads as reads
+use Rattle.repeats.proofs.store.Lts as lts
+use Rattle.fields.proofs.read32.Reads as read32-reads
+use Rattle.items.proofs.size_at.Reads as size-at-reads
+use Rattle.repeats.proofs.insert.Reads as insert-reads
+
+abbrev Inv-loop : tie.InvT-loop
+Inv-loop s keys₀ kids₀ n₀ at₀ keys kids n at = Seeing s keys kids (length keys₀) n at × (length kids ≡ length kids₀)
+
+abbrev μ-loop : tie.MeasureT-loop
+μ-loop s keys₀ kids₀ n₀ at₀ keys kids n at = length s - at
+
+-- src/lib.rt:80:5
+loop-holds : tie.Need-loop-holds Inv-loop μ-loop
+loop-holds c =
+    let p = c .before .before .before .pre in (seeing-none _ _ _ (p .0) (p .2) (p .3), refl)
+
+-- src/lib.rt:81:13
+size-at-requires : tie.Need-size-at-requires Inv-loop μ-loop
+size-at-requires c κs =
+    search needs
+
+-- src/lib.rt:83:13
+same-length : tie.Need-same-length Inv-loop μ-loop
+same-length c =
+    c .before .before .loop .inv .0 .keys-long
+
+-- src/lib.rt:83:13
+same-length-2 : tie.Need-same-length-2 Inv-loop μ-loop
+same-length-2 c =
+    c .before .before .loop .inv .1
+
+-- src/lib.rt:83:13
+returns : tie.Need-returns Inv-loop μ-loop
+returns c =
+    let l = c .before .before in
+    let k = l .before .before .before in
+    let a = k .before .args in
+    seen-all (a .s .now) (λ j. omega (arith, k .shared-slice-known .given j)) _ _ _ _ _ _ (l .loop .inv .0) (c .before .size-at .ensures) (c .if1 .taken)
+
+-- src/lib.rt:88:19
+read32-requires : tie.Need-read32-requires Inv-loop μ-loop
+read32-requires c κs =
+    search needs
+
+-- src/lib.rt:88:12
+insert-requires : tie.Need-insert-requires Inv-loop μ-loop
+insert-requires c κs =
+    let l = c .before .before .before .before .before in
+    let k = l .before .before .before in
+    let a = k .before .args in
+    can-insert (a .s .now) (λ j. omega (arith, k .shared-slice-known .given j)) _ _ _ _ _ _ (l .loop .inv .0) (c .before .before .before .before .size-at .ensures) (c .before .before .before .if1 .left) _ (c .before .before .read32 .ensures) (k .before .pre .1)
+
+-- src/lib.rt:89:13
+same-length-3 : tie.Need-same-length-3 Inv-loop μ-loop
+same-length-3 c =
+    let i = c .before .before .before .before .before in
+    let r = i .before .before .before in
+    let l = r .before .before .before in
+    let k = l .before .before .before in
+    let a = k .before .args in
+    i .insert .kept .1 .1 .0 ∙ l .loop .inv .0 .keys-long
+
+-- src/lib.rt:89:13
+same-length-4 : tie.Need-same-length-4 Inv-loop μ-loop
+same-length-4 c =
+    let i = c .before .before .before .before .before in
+    let r = i .before .before .before in
+    let l = r .before .before .before in
+    let k = l .before .before .before in
+    let a = k .before .args in
+    i .insert .kept .1 .1 .1 .0 ∙ l .loop .inv .1
+
+-- src/lib.rt:89:13
+returns-2 : tie.Need-returns-2 Inv-loop μ-loop
+returns-2 c =
+    let i = c .before .before .before .before .before in
+    let r = i .before .before .before in
+    let l = r .before .before .before in
+    let k = l .before .before .before in
+    let a = k .before .args in
+    seen-again (a .s .now) (λ j. omega (arith, k .shared-slice-known .given j)) _ _ _ _ _ _ (l .loop .inv .0) (r .before .before .size-at .ensures) (r .before .if1 .left) _ (r .read32 .ensures) _ _ _ (i .insert .ensures) (c .if2 .taken)
+
+-- src/lib.rt:94:9
+add-n : tie.Need-add-n Inv-loop μ-loop
+add-n c =
+    let i = c .before .before .before .before .before in
+    let r = i .before .before .before in
+    let l = r .before .before .before in
+    let k = l .before .before .before in
+    let a = k .before .args in
+    let g = can-insert (a .s .now) (λ j. omega (arith, k .shared-slice-known .given j)) _ _ _ _ _ _ (l .loop .inv .0) (r .before .before .size-at .ensures) (r .before .if1 .left) _ (r .read32 .ensures) (k .before .pre .1) in
+    let h : l .loop .n < 8192 = g .1 in
+    search needs
+
+-- src/lib.rt:95:9
+add-at : tie.Need-add-at Inv-loop μ-loop
+add-at c =
+    let i = c .before .before .before .before .before in
+    let r = i .before .before .before in
+    let l = r .before .before .before in
+    let k = l .before .before .before in
+    let a = k .before .args in
+    let f = at-fits _ _ _ (r .before .before .size-at .ensures) (r .before .if1 .left) in
+    search needs
+
+-- src/lib.rt:80:5
+loop-less : tie.Need-loop-less Inv-loop μ-loop
+loop-less c =
+    let i = c .before .before .before .before .before in
+    let r = i .before .before .before in
+    let l = r .before .before .before in
+    let k = l .before .before .before in
+    let a = k .before .args in
+    let f = at-fits _ _ _ (r .before .before .size-at .ensures) (r .before .if1 .left) in
+    omega arith
+
+-- src/lib.rt:80:5
+loop-again : tie.Need-loop-again Inv-loop μ-loop
+loop-again c =
+    let i = c .before .before .before .before .before in
+    let r = i .before .before .before in
+    let l = r .before .before .before in
+    let k = l .before .before .before in
+    let a = k .before .args in
+    (seeing-more (a .s .now) (λ j. omega (arith, k .shared-slice-known .given j)) _ _ _ _ _ _ (l .loop .inv .0) (r .before .before .size-at .ensures) (r .before .if1 .left) _ (r .read32 .ensures) _ _ _ (i .insert .ensures) (c .if2 .left) (i .insert .kept .1 .1 .0) (i .insert .kept .1 .1 .1 .0), i .insert .kept .1 .1 .1 .0 ∙ l .loop .inv .1)
+
+pub store-spec : {M : Type 1} → statement M
+store-spec =
+    tie.close
+    (tie.spec
+    Inv-loop
+    μ-loop
+    loop-holds
+    size-at-requires
+    same-length
+    same-length-2
+    returns
+    read32-requires
+    insert-requires
+    same-length-3
+    same-length-4
+    returns-2
+    add-n
+    add-at
+    loop-less
+    loop-again)

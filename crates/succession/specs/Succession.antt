@@ -1,0 +1,41 @@
+-- Two packets follow each other if the counts do and, where both have a timestamp, the timestamps do (01, "Clock and recordings").
+-- Assumes nothing.
+use Prim.Native.Nat.{ℕ, _+_, _%_, _^_}
+use mathlib.Core.Bool.{Bool, true, false, _&&_}
+use mathlib.Core.List.{List, [], _++_}
+use lib.Dec.{eqb}
+use Rattle.laws.specs.Pick.{pick}
+use Rattle.laws.specs.Refuse.{Test, refusedWith}
+use Rattle.clock.specs.declared.Stamp.{Stamp}
+use Rattle.clock.specs.declared.Verdict.{Verdict}
+use Rattle.clock.specs.Follows as stamps
+use Rattle.clock.specs.Stamps.{fieldTests}
+use Rattle.record.specs.declared.Record.{Record}
+use Rattle.record.specs.declared.Time.{Time}
+use Rattle.record.specs.declared.Time.the-variants.{Absent, Given}
+
+-- the frame after FFFFFFFF is 0
+unfoldable pub countFollows : ℕ → ℕ → Bool
+countFollows a b = eqb b ((a + 1) % 2 ^ 32)
+
+-- nothing is asked of a packet that has no timestamp
+unfoldable pub stampBefore : Stamp → Time → Bool
+stampBefore a Absent = true
+stampBefore a (Given b) = stamps.followsFor a b .yes
+
+unfoldable pub timesFollow : Time → Time → Bool
+timesFollow Absent t = true
+timesFollow (Given a) t = stampBefore a t
+
+-- the refusals: the fields of a timestamp that is there
+unfoldable pub timeTests : Time → List Test
+timeTests Absent = []
+timeTests (Given a) = fieldTests a
+
+unfoldable pub testsFor : Record → Record → List Test
+testsFor a b = timeTests (a .time) ++ timeTests (b .time)
+
+unfoldable pub followsFor : Record → Record → Verdict
+followsFor a b =
+    let number = refusedWith (testsFor a b) in
+    record { number = number; yes = pick (eqb number 0) (countFollows (a .count) (b .count) && timesFollow (a .time) (b .time)) false }
