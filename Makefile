@@ -2,12 +2,15 @@
 # make test    the gate: proofs, must-fail edits, programs, and a fresh set of cases compared with the second program
 #              make test SEED=17 COUNT=5000 repeats a set, or makes a larger one
 # make bench   instructions per call against plain C
+# make install PREFIX=/usr/local    header, archive and pkg-config file for a host in C (DESTDIR goes before it, as usual)
 # make cases   writes the stored cases of the answering programs anew (after a call was added to both programs)
 SEED =
 COUNT = 3000
 LIMIT = 1.10
+PREFIX = /usr/local
+DESTDIR =
 
-.PHONY: test demo bench cases
+.PHONY: test demo bench install cases
 
 test:
 	@sh scripts/test.sh "$(COUNT)" "$(SEED)"
@@ -17,6 +20,9 @@ demo:
 
 bench:
 	@sh bench/count.sh "$(LIMIT)"
+
+install:
+	@sh scripts/install.sh "$(PREFIX)" "$(DESTDIR)"
 
 cases:
 	@sh scripts/cases.sh

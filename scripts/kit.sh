@@ -16,13 +16,20 @@ if [ ! -d "$TOOLS" ]; then
     exit 2
 fi
 
-# run_program NAME ARGS..: programs are x86-64 code; on another processor the kit has an emulator beside its compiler
+# the archives and programs are x86-64 code; on another processor the kit has an emulator beside its compiler
+EMULATOR=$TOOLS/bin/qemu-x86_64
+[ -x "$EMULATOR" ] || EMULATOR=
+
+# run_file FILE ARGS..: a program that the kit linked, with the kit's C library
+run_file() {
+    $EMULATOR "$TOOLS/lib/ld-linux-x86-64.so.2" --library-path "$TOOLS/lib" "$@"
+}
+
+# run_program NAME ARGS..: a program of this repository
 run_program() {
     program=$ROOT/target/bin/$1
     shift
-    emulator=$TOOLS/bin/qemu-x86_64
-    [ -x "$emulator" ] || emulator=
-    $emulator "$TOOLS/lib/ld-linux-x86-64.so.2" --library-path "$TOOLS/lib" "$program" "$@"
+    run_file "$program" "$@"
 }
 
 # build_reference: the second program, from source, with no network

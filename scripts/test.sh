@@ -1,6 +1,6 @@
 #!/bin/sh
 # test.sh COUNT [SEED]: the test command. Ends in exactly one last line 'N passed, M failed'; status 0 only where M is 0.
-# N counts rt's passes, the layout check, the reading of the must-fail logs, and each case of the fresh set.
+# N counts rt's passes, the layout check, the reading of the must-fail logs, each case of the fresh set, and each comparison of the C host.
 set -u
 ROOT=$(cd "$(dirname "$0")/.." && pwd -P)
 cd "$ROOT" || exit 2
@@ -82,4 +82,9 @@ echo "seed $seed (repeat with: make test SEED=$seed COUNT=$count)"
 sh scripts/fresh.sh "$count" "$seed" >"$room/fresh.out" 2>&1
 quiet <"$room/fresh.out"
 add "$room/fresh.out"
+
+echo "== the C host"
+sh scripts/host.sh "$seed" >"$room/host.out" 2>&1
+quiet <"$room/host.out"
+add "$room/host.out"
 finish

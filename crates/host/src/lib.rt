@@ -2,16 +2,31 @@
 // runs the shared stream itself: state, settings and answers as structs by value, stores and frames lent as pointer and length. Each has
 // the library's own promise; nothing is decided here. The C side is host/keshgurvat.h.
 ghost use mathlib.Core.Path.{_≡_};
+ghost use lib.ListN.{length};
 ghost use Rattle.dispersal.specs.Dispersal.{numberFor, outputFor};
 ghost use Rattle.packet.specs.Calls.{checkFor};
 ghost use Rattle.hand.specs.Settings.{settingsFor};
+ghost use Rattle.receiver.specs.Receiver.{saidFor, bufferFor};
 ghost use Rattle.sender.specs.State.{fresh};
 ghost use Rattle.sender.specs.Load.{loadFor, storeFor};
 ghost use Rattle.sender.specs.Frame.{frameFor, storeAfter, outFor};
+ghost use Rattle.host.specs.Received.{unheard, receivedBy, receivedFor, said};
 use hand::Settings;
+use receiver::Answer;
+use receiver::Receiver;
 use sender::Framed;
 use sender::Loaded;
 use sender::Sender;
+
+// What a packet brought: the number; whether a unit is complete, its id and length, all 0 where none is; and the record after the call.
+#[repr(C)]
+pub struct Received {
+    pub number: u32,
+    pub delivered: bool,
+    pub id: u8,
+    pub length: usize,
+    pub next: Receiver,
+}
 
 #[no_mangle]
 pub extern "C" fn keshgurvat_disperse(input: &[u8], output: &mut [u8]) -> u32
@@ -68,4 +83,57 @@ pub extern "C" fn keshgurvat_frame(
     ensures written { λ _. ⌜ now (out .exit) ≡ outFor settings state (now (store .entry)) (now (out .entry)) ⌝ }
 {
     state.frame(settings, store, out)
+}
+
+#[no_mangle]
+pub extern "C" fn keshgurvat_receiver_fresh() -> Receiver
+    ensures { λ r. ⌜ r ≡ unheard ⌝ }
+{
+    Receiver::fresh()
+}
+
+// The answer in numbers, since an enum cannot cross to C.
+fn in_numbers(answer: Answer, next: Receiver) -> Received
+    ensures { λ r. ⌜ r ≡ receivedBy answer next ⌝ }
+{
+    match answer {
+        Answer::Nothing => Received {
+            number: 0,
+            delivered: false,
+            id: 0,
+            length: 0,
+            next: next,
+        },
+        Answer::Delivered { id, length } => Received {
+            number: 0,
+            delivered: true,
+            id: id,
+            length: length,
+            next: next,
+        },
+        Answer::Refused { number } => Received {
+            number: number,
+            delivered: false,
+            id: 0,
+            length: 0,
+            next: next,
+        },
+    }
+}
+
+#[no_mangle]
+pub extern "C" fn keshgurvat_receive(
+    state: Receiver,
+    p: usize,
+    buffer: &mut [u8],
+    packet: &[u8],
+) -> Received
+    ensures answer { λ r. ⌜ r ≡ receivedFor p state (now (packet .entry)) (length (now (buffer .entry))) ⌝ }
+    ensures values { λ r. ⌜ said r ≡ saidFor p state (now (packet .entry)) (length (now (buffer .entry))) ⌝ }
+    ensures memory { λ _. ⌜ now (buffer .exit) ≡ bufferFor p state (now (packet .entry)) (now (buffer .entry)) ⌝ }
+{
+    let t = state.step(p, buffer, packet);
+    let answer = t.answer;
+    let next = t.next;
+    in_numbers(answer, next)
 }

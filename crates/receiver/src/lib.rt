@@ -11,6 +11,7 @@ ghost use Rattle.receiver.specs.Link.{kept, nullOf, baseOf, joins, adds,
 ghost use Rattle.receiver.specs.Receiver.{fresh, broken, numberWith, saysWith, Ready, takenIn, bufferIn, stepFor, told, saidFor, bufferFor};
 
 // What is known of one id: whether a packet of it has come, the next index, whether a unit is open, and its bytes so far.
+#[repr(C)]
 pub struct Link {
     pub heard: bool,
     pub index: u8,
@@ -18,6 +19,7 @@ pub struct Link {
     pub len: u16,
 }
 
+#[repr(C)]
 pub struct Receiver {
     pub link: [Link; 4],
 }

@@ -1,0 +1,176 @@
+/* The verified multiplexer core, for a host in C (C99, C11) or C++ (from C++11), on x86-64 Linux: link libkeshgurvat.a.
+
+   Numbers given back are document 01's: 0 is done, and a refusal leaves all lent memory as it was and hands the state back as it came.
+   Behind each call stand its refusals in the order tried. Every call takes every number and every byte; what the C side owes is that a
+   pointer is good for the length beside it (not null, also for length 0), that no two buffers of a call overlap where one is written, and
+   that a bool is 0 or 1. The calls keep nothing between them: a state belongs to the caller, and two threads may use two states at once.
+
+   A struct that is handed over and back is the whole state. A run hands each call the state and the store that the last one left. */
+#ifndef KESHGURVAT_H
+#define KESHGURVAT_H
+#include <stddef.h>
+#include <stdint.h>
+#ifdef __cplusplus
+#define KESHGURVAT_LAYOUT(fact) static_assert(fact, "the library has another layout")
+extern "C" {
+#else
+#include <stdbool.h>
+#if defined __STDC_VERSION__ && __STDC_VERSION__ >= 201112L
+#define KESHGURVAT_LAYOUT(fact) _Static_assert(fact, "the library has another layout")
+#else
+#define KESHGURVAT_JOIN2(a, b) a##b
+#define KESHGURVAT_JOIN(a, b) KESHGURVAT_JOIN2(a, b)
+#define KESHGURVAT_LAYOUT(fact) typedef char KESHGURVAT_JOIN(keshgurvat_layout_, __LINE__)[(fact) ? 1 : -1]
+#endif
+#endif
+#define KESHGURVAT_FIELD(type, field, at) KESHGURVAT_LAYOUT(offsetof(struct type, field) == (at))
+
+/* Lengths in bytes that 01 fixes. */
+#define KESHGURVAT_LONGEST 65528u /* the longest input of a call */
+#define KESHGURVAT_QUEUE 4096u    /* a queue's part of the store, an id's part of the receiver's buffer, the longest unit */
+#define KESHGURVAT_STORE 12288u   /* the sender's store: queues 0, 1, 2 */
+#define KESHGURVAT_BUFFER 16384u  /* the receiver's buffer: ids 0 to 3 */
+
+/* One number for each of the queues 0, 1, 2. */
+struct keshgurvat_three {
+    size_t a, b, c;
+};
+KESHGURVAT_LAYOUT(sizeof(struct keshgurvat_three) == 24);
+KESHGURVAT_FIELD(keshgurvat_three, a, 0);
+KESHGURVAT_FIELD(keshgurvat_three, b, 8);
+KESHGURVAT_FIELD(keshgurvat_three, c, 16);
+
+/* p data bytes a packet, n packets a frame; of each queue the packets it is sure of in a frame, and the most it gets. */
+struct keshgurvat_settings {
+    size_t p, n;
+    struct keshgurvat_three share, ceiling;
+};
+KESHGURVAT_LAYOUT(sizeof(struct keshgurvat_settings) == 64);
+KESHGURVAT_FIELD(keshgurvat_settings, p, 0);
+KESHGURVAT_FIELD(keshgurvat_settings, n, 8);
+KESHGURVAT_FIELD(keshgurvat_settings, share, 16);
+KESHGURVAT_FIELD(keshgurvat_settings, ceiling, 40);
+
+/* One queue: its unfinished units in order, with the bytes left of each (places from count on say nothing), and how many bytes of the
+   first are sent. */
+struct keshgurvat_queue {
+    uint16_t left[8];
+    size_t count, sent;
+};
+KESHGURVAT_LAYOUT(sizeof(struct keshgurvat_queue) == 32);
+KESHGURVAT_FIELD(keshgurvat_queue, left, 0);
+KESHGURVAT_FIELD(keshgurvat_queue, count, 16);
+KESHGURVAT_FIELD(keshgurvat_queue, sent, 24);
+
+/* The sender: three queues, whose turn it is to get a spare, and the next continuity index of each id, filler (id 3) last. */
+struct keshgurvat_sender {
+    struct keshgurvat_queue q[3];
+    size_t turn;
+    uint8_t index[4];
+};
+KESHGURVAT_LAYOUT(sizeof(struct keshgurvat_sender) == 112);
+KESHGURVAT_FIELD(keshgurvat_sender, q, 0);
+KESHGURVAT_FIELD(keshgurvat_sender, turn, 96);
+KESHGURVAT_FIELD(keshgurvat_sender, index, 104);
+
+/* The answer to a load: the number, and the sender after it. */
+struct keshgurvat_loaded {
+    uint32_t number;
+    struct keshgurvat_sender next;
+};
+KESHGURVAT_LAYOUT(sizeof(struct keshgurvat_loaded) == 120);
+KESHGURVAT_FIELD(keshgurvat_loaded, number, 0);
+KESHGURVAT_FIELD(keshgurvat_loaded, next, 8);
+
+/* The answer to a frame: the number, the sender after it, the packets of each queue in the frame, the spares among them, and the filler;
+   the counts are 0 where it is refused. */
+struct keshgurvat_framed {
+    uint32_t number;
+    struct keshgurvat_sender next;
+    struct keshgurvat_three packets;
+    size_t spares, filler;
+};
+KESHGURVAT_LAYOUT(sizeof(struct keshgurvat_framed) == 160);
+KESHGURVAT_FIELD(keshgurvat_framed, number, 0);
+KESHGURVAT_FIELD(keshgurvat_framed, next, 8);
+KESHGURVAT_FIELD(keshgurvat_framed, packets, 120);
+KESHGURVAT_FIELD(keshgurvat_framed, spares, 144);
+KESHGURVAT_FIELD(keshgurvat_framed, filler, 152);
+
+/* What the receiver knows of one id: whether a packet of it has come, the index that the next one should have, whether a unit is open, and
+   its bytes so far (0 where none is open). */
+struct keshgurvat_link {
+    bool heard;
+    uint8_t index;
+    bool begun;
+    uint16_t len;
+};
+KESHGURVAT_LAYOUT(sizeof(struct keshgurvat_link) == 6);
+KESHGURVAT_FIELD(keshgurvat_link, heard, 0);
+KESHGURVAT_FIELD(keshgurvat_link, index, 1);
+KESHGURVAT_FIELD(keshgurvat_link, begun, 2);
+KESHGURVAT_FIELD(keshgurvat_link, len, 4);
+
+struct keshgurvat_receiver {
+    struct keshgurvat_link link[4];
+};
+KESHGURVAT_LAYOUT(sizeof(struct keshgurvat_receiver) == 24);
+KESHGURVAT_FIELD(keshgurvat_receiver, link, 0);
+
+/* The answer to a packet: the number; whether it completed a unit, and then its id and length: its bytes are the first `length` at
+   id * 4,096 of the buffer, until the id's next packet comes; and the receiver after it. id and length are 0 where no unit is complete. */
+struct keshgurvat_received {
+    uint32_t number;
+    bool delivered;
+    uint8_t id;
+    size_t length;
+    struct keshgurvat_receiver next;
+};
+KESHGURVAT_LAYOUT(sizeof(struct keshgurvat_received) == 40);
+KESHGURVAT_FIELD(keshgurvat_received, number, 0);
+KESHGURVAT_FIELD(keshgurvat_received, delivered, 4);
+KESHGURVAT_FIELD(keshgurvat_received, id, 5);
+KESHGURVAT_FIELD(keshgurvat_received, length, 8);
+KESHGURVAT_FIELD(keshgurvat_received, next, 16);
+
+/* Energy dispersal of a block, to the front of the output; applied twice it gives the block back.
+   1: input over 65,528 bytes; output shorter than the input. */
+uint32_t keshgurvat_disperse(const uint8_t *input, size_t input_length, uint8_t *output, size_t output_length);
+
+/* Whether a packet of p data bytes is whole.
+   13: p outside 1 to 255. 1: a length other than p + 3. 16: the check word; a padded packet's count over p - 1. */
+uint32_t keshgurvat_packet_check(size_t p, const uint8_t *packet, size_t packet_length);
+
+/* Whether settings are within 01's limits.
+   13: p outside 1 to 255; n 0; n (p + 3) over 8,190; a share over its ceiling; a ceiling 0 or over n; shares over n together. */
+uint32_t keshgurvat_settings_check(struct keshgurvat_settings settings);
+
+/* A sender with no unit, turn 0, indexes 0. No refusals. */
+struct keshgurvat_sender keshgurvat_sender_fresh(void);
+
+/* A unit for queue id; its bytes go to the store.
+   13: the settings. 17: the state, as 01 lists it; never in a run from a fresh sender with p unchanged. 1: a store other than 12,288 bytes; a
+   unit over 65,528. 14: a unit empty or over 4,096 bytes; id over 2. 15: eight units unfinished, or too few bytes free in the queue. */
+struct keshgurvat_loaded keshgurvat_load(struct keshgurvat_sender state, struct keshgurvat_settings settings,
+                                         uint8_t *store, size_t store_length, size_t id, const uint8_t *unit, size_t unit_length);
+
+/* The next frame, n (p + 3) bytes, to the front of the output.
+   13: the settings. 17: the state, as above. 1: a store other than 12,288 bytes. 1, last: an output under n (p + 3) bytes. */
+struct keshgurvat_framed keshgurvat_frame(struct keshgurvat_sender state, struct keshgurvat_settings settings,
+                                          uint8_t *store, size_t store_length, uint8_t *output, size_t output_length);
+
+/* A receiver that no packet has come to. No refusals. */
+struct keshgurvat_receiver keshgurvat_receiver_fresh(void);
+
+/* One packet of p data bytes; the useful bytes go to the buffer.
+   13: p outside 1 to 255. 17: in any of the four, an index over 7 or an open unit over 4,096. 1: a buffer other than 16,384 bytes; a
+   packet other than p + 3. 16: the check word; a padded packet's count over p - 1. */
+struct keshgurvat_received keshgurvat_receive(struct keshgurvat_receiver state, size_t p,
+                                              uint8_t *buffer, size_t buffer_length, const uint8_t *packet, size_t packet_length);
+
+#undef KESHGURVAT_FIELD
+#undef KESHGURVAT_LAYOUT
+#ifdef __cplusplus
+}
+#endif
+#endif

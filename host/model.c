@@ -1,0 +1,185 @@
+#include "model.h"
+#include <string.h>
+
+/* ---- dispersal: each bit the sum modulo 2 of those 5 and 9 places before, nine ones before the first */
+uint32_t model_disperse(const uint8_t *input, size_t n, uint8_t *output, size_t room) {
+    if (n > 65528 || room < n) return 1;
+    unsigned char before[9]; /* before[0] is the last bit */
+    memset(before, 1, sizeof before);
+    for (size_t k = 0; k < 8 * n; k++) {
+        unsigned char bit = before[4] ^ before[8];
+        memmove(before + 1, before, 8);
+        before[0] = bit;
+        if (k % 8 == 0) output[k / 8] = input[k / 8];
+        output[k / 8] ^= (uint8_t)(bit << (7 - k % 8));
+    }
+    return 0;
+}
+
+/* ---- packets: CRC-16 x^16+x^12+x^5+1, all ones at first, result inverted, a bit at a time (000, annex D) */
+static unsigned check_word(const uint8_t *s, size_t n) {
+    unsigned r = 0xffff;
+    for (size_t k = 0; k < 8 * n; k++) {
+        unsigned out = r >> 15 & 1, in = s[k / 8] >> (7 - k % 8) & 1;
+        r = r << 1 & 0xffff;
+        if (out != in) r ^= 1 << 12 | 1 << 5 | 1;
+    }
+    return r ^ 0xffff;
+}
+
+void model_seal(uint8_t *packet, size_t p) {
+    unsigned c = check_word(packet, p + 1);
+    packet[p + 1] = (uint8_t)(c >> 8);
+    packet[p + 2] = (uint8_t)c;
+}
+
+void model_packet(uint8_t *to, size_t p, bool first, bool last, size_t id, size_t index, const uint8_t *useful, size_t n) {
+    bool padded = n < p;
+    to[0] = (uint8_t)((first ? 128 : 0) + (last ? 64 : 0) + 16 * id + (padded ? 8 : 0) + index);
+    memset(to + 1, 0, p);
+    if (padded) to[1] = (uint8_t)n;
+    if (n) memcpy(to + 1 + padded, useful, n);
+    model_seal(to, p);
+}
+
+uint32_t model_check(size_t p, const uint8_t *packet, size_t n) {
+    if (p < 1 || p > 255) return 13;
+    if (n != p + 3) return 1;
+    if (check_word(packet, p + 1) != packet[p + 1] * 256u + packet[p + 2]) return 16;
+    if ((packet[0] & 8) && packet[1] > p - 1) return 16;
+    return 0;
+}
+
+/* ---- settings */
+static void three(const struct keshgurvat_three *t, size_t to[3]) { to[0] = t->a, to[1] = t->b, to[2] = t->c; }
+
+uint32_t model_settings(const struct keshgurvat_settings *s) {
+    size_t share[3], ceiling[3], free = s->n;
+    three(&s->share, share), three(&s->ceiling, ceiling);
+    if (s->p < 1 || s->p > 255 || s->n < 1 || s->n > 8190 / (s->p + 3)) return 13;
+    for (int i = 0; i < 3; i++) {
+        if (share[i] > ceiling[i] || ceiling[i] < 1 || ceiling[i] > s->n || share[i] > free) return 13;
+        free -= share[i];
+    }
+    return 0;
+}
+
+/* ---- the sender: a queue as the list of its units' lengths left */
+static size_t unsent(const struct keshgurvat_queue *q) {
+    size_t n = 0;
+    for (size_t i = 0; i < q->count; i++) n += q->left[i];
+    return n;
+}
+
+static size_t packets_of(size_t bytes, size_t p) { return bytes / p + (bytes % p != 0); }
+
+static bool is_17(const struct keshgurvat_sender *state, size_t p) {
+    for (int id = 0; id < 3; id++) {
+        const struct keshgurvat_queue *q = &state->q[id];
+        if (q->count > 8) return true;
+        for (size_t i = 0; i < q->count; i++) {
+            size_t sent = i == 0 ? q->sent : 0;
+            if (q->left[i] == 0 || sent > 4096 || q->left[i] + sent > 4096) return true;
+        }
+        if (unsent(q) > 4096 || q->sent % p != 0 || (q->count == 0 && q->sent != 0)) return true;
+    }
+    for (int id = 0; id < 4; id++)
+        if (state->index[id] > 7) return true;
+    return state->turn > 2;
+}
+
+uint32_t model_load(struct keshgurvat_sender *state, const struct keshgurvat_settings *s, uint8_t *store, size_t room, size_t id,
+                    const uint8_t *unit, size_t n) {
+    if (model_settings(s)) return 13;
+    if (is_17(state, s->p)) return 17;
+    if (room != 12288 || n > 65528) return 1;
+    if (n < 1 || n > 4096 || id > 2) return 14;
+    struct keshgurvat_queue *q = &state->q[id];
+    if (n + unsent(q) > 4096 || q->count >= 8) return 15;
+    memcpy(store + 4096 * id + unsent(q), unit, n);
+    q->left[q->count++] = (uint16_t)n;
+    return 0;
+}
+
+/* each queue first gets the smaller of share and waiting; then spares go one at a time, in cyclic order from the turn */
+static void hand_out(struct keshgurvat_sender *state, const struct keshgurvat_settings *s, struct model_counts *c) {
+    size_t share[3], ceiling[3], waiting[3] = {0, 0, 0}, total = 0;
+    three(&s->share, share), three(&s->ceiling, ceiling);
+    memset(c, 0, sizeof *c);
+    for (int id = 0; id < 3; id++) {
+        for (size_t i = 0; i < state->q[id].count; i++) waiting[id] += packets_of(state->q[id].left[i], s->p);
+        c->packets[id] = share[id] < waiting[id] ? share[id] : waiting[id];
+        total += c->packets[id];
+    }
+    for (size_t passed = 0, id = state->turn; passed < 3 && total < s->n; id = (id + 1) % 3) {
+        passed++;
+        if (c->packets[id] == waiting[id] || c->packets[id] == ceiling[id]) continue;
+        c->packets[id]++, c->spares++, total++, passed = 0;
+        state->turn = (id + 1) % 3;
+    }
+    c->filler = s->n - total;
+}
+
+/* one packet of a queue, whose unsent bytes begin at `from`; gives its useful bytes */
+static size_t send_one(struct keshgurvat_queue *q, size_t p, size_t id, uint8_t index, const uint8_t *from, uint8_t *to) {
+    size_t n = q->left[0] < p ? q->left[0] : p;
+    bool last = n == q->left[0];
+    model_packet(to, p, q->sent == 0, last, id, index, from, n);
+    if (last) {
+        memmove(q->left, q->left + 1, 7 * sizeof q->left[0]);
+        q->count--, q->sent = 0;
+    } else {
+        q->left[0] = (uint16_t)(q->left[0] - n), q->sent += n;
+    }
+    return n;
+}
+
+uint32_t model_frame(struct keshgurvat_sender *state, const struct keshgurvat_settings *s, uint8_t *store, size_t room, uint8_t *out,
+                     size_t size, struct model_counts *counts) {
+    memset(counts, 0, sizeof *counts);
+    if (model_settings(s)) return 13;
+    if (is_17(state, s->p)) return 17;
+    if (room != 12288 || size < s->n * (s->p + 3)) return 1;
+    hand_out(state, s, counts);
+    for (size_t id = 0; id < 4; id++) {
+        uint8_t *part = id < 3 ? store + 4096 * id : NULL;
+        size_t sent = 0;
+        for (size_t k = 0; k < (id < 3 ? counts->packets[id] : counts->filler); k++) {
+            if (id < 3) sent += send_one(&state->q[id], s->p, id, state->index[id], part + sent, out);
+            else model_packet(out, s->p, true, true, 3, state->index[3], NULL, 0);
+            state->index[id] = (state->index[id] + 1) % 8;
+            out += s->p + 3;
+        }
+        if (id < 3) memmove(part, part + sent, unsent(&state->q[id]));
+    }
+    return 0;
+}
+
+/* ---- the receiver, in the order of its paragraph */
+uint32_t model_receive(struct keshgurvat_receiver *state, size_t p, uint8_t *buffer, size_t room, const uint8_t *packet, size_t n,
+                       struct model_unit *unit) {
+    memset(unit, 0, sizeof *unit);
+    if (p < 1 || p > 255) return 13;
+    for (int id = 0; id < 4; id++)
+        if (state->link[id].index > 7 || (state->link[id].begun && state->link[id].len > 4096)) return 17;
+    if (room != 16384 || n != p + 3) return 1;
+    if (model_check(p, packet, n)) return 16;
+    bool first = packet[0] & 128, last = packet[0] & 64, padded = packet[0] & 8;
+    size_t id = packet[0] >> 4 & 3, index = packet[0] & 7, useful = padded ? packet[1] : p;
+    struct keshgurvat_link *link = &state->link[id];
+    size_t length = link->begun ? link->len : 0; /* of the open unit */
+    bool open = link->begun && (!link->heard || link->index == index);
+    link->heard = true, link->index = (uint8_t)((index + 1) % 8);
+    if (!(padded && useful == 0 && first && last)) {
+        if (first) open = true, length = 0;
+        if (open && length + useful > 4096) open = false;
+        if (open) {
+            memcpy(buffer + 4096 * id + length, packet + 1 + padded, useful);
+            length += useful;
+            if (last) unit->delivered = true, unit->id = id, unit->length = length;
+            open = !last;
+        }
+    }
+    link->begun = open, link->len = (uint16_t)(open ? length : 0);
+    return 0;
+}

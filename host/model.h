@@ -1,0 +1,30 @@
+/* A second account of document 01, for the comparison in test.c: from the page's sentences, on plain lists, one bit or one packet at a
+   time, with none of the library's code. Each call acts on its arguments in place and gives the number; a refusal changes nothing. */
+#ifndef MODEL_H
+#define MODEL_H
+#include "keshgurvat.h"
+
+/* what a frame or a packet brought, beside the state */
+struct model_counts {
+    size_t packets[3], spares, filler;
+};
+struct model_unit {
+    bool delivered;
+    size_t id, length;
+};
+
+uint32_t model_disperse(const uint8_t *input, size_t n, uint8_t *output, size_t room);
+
+/* a packet of p + 3 bytes; the check word of one whose other bytes were changed */
+void model_packet(uint8_t *to, size_t p, bool first, bool last, size_t id, size_t index, const uint8_t *useful, size_t n);
+void model_seal(uint8_t *packet, size_t p);
+uint32_t model_check(size_t p, const uint8_t *packet, size_t n);
+
+uint32_t model_settings(const struct keshgurvat_settings *s);
+uint32_t model_load(struct keshgurvat_sender *state, const struct keshgurvat_settings *s, uint8_t *store, size_t room, size_t id,
+                    const uint8_t *unit, size_t n);
+uint32_t model_frame(struct keshgurvat_sender *state, const struct keshgurvat_settings *s, uint8_t *store, size_t room, uint8_t *out,
+                     size_t size, struct model_counts *counts);
+uint32_t model_receive(struct keshgurvat_receiver *state, size_t p, uint8_t *buffer, size_t room, const uint8_t *packet, size_t n,
+                       struct model_unit *unit);
+#endif

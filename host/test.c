@@ -1,0 +1,382 @@
+/* Every call of keshgurvat.h on many inputs (valid, damaged, at the limits), compared with the second account in model.c. Each buffer
+   stands between guard bytes; whatever the model leaves as it was, the library must.
+   usage: test [SEED]; the last line is 'N passed, M failed', the status 0 only where M is 0. */
+#include <stdio.h>
+#include <stdlib.h>
+#include <string.h>
+#include "model.h"
+
+static unsigned long passed, failed;
+static void check(bool ok, const char *what, unsigned long number) {
+    if (ok) passed++;
+    else if (failed++ < 20) printf("%s: case %lu differs\n", what, number);
+}
+
+/* ---- how often each call gave each number: one that never came up was not tried */
+enum call { DISPERSE, CHECK, SETTINGS, LOAD, FRAME, RECEIVE, CALLS };
+static unsigned long seen[CALLS][32];
+static void saw(enum call call, uint32_t number) { seen[call][number % 32]++; }
+static void test_seen(void) {
+    static const struct { const char *name; uint8_t numbers[7]; } all[CALLS] = { /* the last number of each is 0 */
+        {"disperse", {1, 0}}, {"packet check", {13, 1, 16, 0}}, {"settings check", {13, 0}},
+        {"load", {13, 17, 1, 14, 15, 0}}, {"frame", {13, 17, 1, 0}}, {"receive", {13, 17, 1, 16, 0}}};
+    for (int c = 0; c < CALLS; c++) {
+        printf("%-14s", all[c].name);
+        for (const uint8_t *n = all[c].numbers;; n++) {
+            printf("  %u: %lu", *n, seen[c][*n]);
+            check(seen[c][*n] > 0, all[c].name, *n);
+            if (*n == 0) break;
+        }
+        printf("\n");
+    }
+}
+
+/* ---- chance */
+static uint64_t chance;
+static uint64_t draw(void) { /* splitmix64 */
+    uint64_t z = (chance += 0x9e3779b97f4a7c15u);
+    z = (z ^ z >> 30) * 0xbf58476d1ce4e5b9u;
+    z = (z ^ z >> 27) * 0x94d049bb133111ebu;
+    return z ^ z >> 31;
+}
+static size_t below(size_t n) { return (size_t)(draw() % n); }
+static bool one_in(size_t n) { return below(n) == 0; }
+#define ONE_OF(list) ((list)[below(sizeof(list) / sizeof(list)[0])])
+
+/* ---- lent buffers: `ours` is what the library gets, at any alignment and between guard bytes, `model` what the model gets */
+enum { GUARD = 32, MOST = 65600 };
+struct lent {
+    uint8_t room[GUARD + 8 + MOST + GUARD], model[MOST], *ours;
+    size_t length;
+};
+static struct lent input, output, store, buffer;
+
+static uint8_t guard(size_t i) { return (uint8_t)(0xa5 ^ 29 * i); }
+static void lend(struct lent *b, const uint8_t *bytes, size_t n) { /* where no bytes are given, any */
+    b->ours = b->room + GUARD + below(8);
+    b->length = n;
+    uint64_t any = draw();
+    for (size_t i = 0; i < n; i++) {
+        any = any * 6364136223846793005u + 1442695040888963407u;
+        b->model[i] = bytes ? bytes[i] : (uint8_t)(any >> 56);
+    }
+    memcpy(b->ours, b->model, n);
+    for (size_t i = 0; i < GUARD; i++) b->ours[-1 - (long)i] = b->ours[n + i] = guard(i);
+}
+static bool settled(const struct lent *b) { /* as the model left it, and nothing beside it touched */
+    for (size_t i = 0; i < GUARD; i++)
+        if (b->ours[-1 - (long)i] != guard(i) || b->ours[b->length + i] != guard(i)) return false;
+    return memcmp(b->ours, b->model, b->length) == 0;
+}
+
+/* ---- what states have in common */
+static bool same_queue(const struct keshgurvat_queue *a, const struct keshgurvat_queue *b, size_t places) {
+    return a->count == b->count && a->sent == b->sent && memcmp(a->left, b->left, places * sizeof a->left[0]) == 0;
+}
+/* all of it where nothing may change; else the places that say something */
+static bool same_sender(const struct keshgurvat_sender *a, const struct keshgurvat_sender *b, bool all) {
+    for (int i = 0; i < 3; i++)
+        if (!same_queue(&a->q[i], &b->q[i], all || a->q[i].count > 8 ? 8 : a->q[i].count)) return false;
+    return a->turn == b->turn && memcmp(a->index, b->index, sizeof a->index) == 0;
+}
+static bool same_receiver(const struct keshgurvat_receiver *a, const struct keshgurvat_receiver *b) {
+    for (int i = 0; i < 4; i++) {
+        const struct keshgurvat_link *x = &a->link[i], *y = &b->link[i];
+        if (x->heard != y->heard || x->index != y->index || x->begun != y->begun || x->len != y->len) return false;
+    }
+    return true;
+}
+
+/* ---- the calls, each against the model; the states come back for the next call */
+static void disperse(size_t n, size_t room, unsigned long t) {
+    lend(&input, NULL, n), lend(&output, NULL, room);
+    uint32_t want = model_disperse(input.model, n, output.model, room);
+    uint32_t got = keshgurvat_disperse(input.ours, n, output.ours, room);
+    check(got == want && settled(&input) && settled(&output), "disperse", t);
+    saw(DISPERSE, got);
+}
+
+static void packet_check(size_t p, const uint8_t *packet, size_t n, unsigned long t) {
+    lend(&input, packet, n);
+    uint32_t want = model_check(p, input.model, n), got = keshgurvat_packet_check(p, input.ours, n);
+    check(got == want && settled(&input), "packet check", t);
+    saw(CHECK, got);
+}
+
+/* the answer too stands between guards: a struct that is larger on the other side would write over them */
+static bool intact(const uint64_t edge[2]) { return edge[0] == 0x0123456789abcdefu && edge[1] == 0x0123456789abcdefu; }
+#define ANSWER(type) struct { uint64_t before[2]; struct type got; uint64_t behind[2]; } \
+    a = {{0x0123456789abcdefu, 0x0123456789abcdefu}, {0}, {0x0123456789abcdefu, 0x0123456789abcdefu}}
+
+static uint32_t load(struct keshgurvat_sender *state, struct keshgurvat_settings s, size_t room, size_t id, size_t n, unsigned long t) {
+    struct keshgurvat_sender want = *state;
+    lend(&input, NULL, n);
+    ANSWER(keshgurvat_loaded);
+    uint32_t number = model_load(&want, &s, store.model, room, id, input.model, n);
+    a.got = keshgurvat_load(*state, s, store.ours, room, id, input.ours, n);
+    check(a.got.number == number && same_sender(&a.got.next, &want, number != 0) && settled(&input) && settled(&store)
+              && intact(a.before) && intact(a.behind), "load", t);
+    saw(LOAD, a.got.number);
+    *state = a.got.next;
+    return a.got.number;
+}
+
+static struct keshgurvat_framed frame(struct keshgurvat_sender *state, struct keshgurvat_settings s, size_t room, size_t size,
+                                      unsigned long t) {
+    struct keshgurvat_sender want = *state;
+    struct model_counts c;
+    lend(&output, NULL, size);
+    ANSWER(keshgurvat_framed);
+    uint32_t number = model_frame(&want, &s, store.model, room, output.model, size, &c);
+    a.got = keshgurvat_frame(*state, s, store.ours, room, output.ours, size);
+    check(a.got.number == number && same_sender(&a.got.next, &want, number != 0) && settled(&output) && settled(&store)
+              && intact(a.before) && intact(a.behind), "frame", t);
+    check(a.got.packets.a == c.packets[0] && a.got.packets.b == c.packets[1] && a.got.packets.c == c.packets[2]
+              && a.got.spares == c.spares && a.got.filler == c.filler, "frame's counts", t);
+    saw(FRAME, a.got.number);
+    *state = a.got.next;
+    return a.got;
+}
+
+static struct keshgurvat_received receive(struct keshgurvat_receiver *state, size_t p, size_t room, const uint8_t *packet, size_t n,
+                                          unsigned long t) {
+    struct keshgurvat_receiver want = *state;
+    struct model_unit unit;
+    lend(&input, packet, n);
+    ANSWER(keshgurvat_received);
+    uint32_t number = model_receive(&want, p, buffer.model, room, input.model, n, &unit);
+    a.got = keshgurvat_receive(*state, p, buffer.ours, room, input.ours, n);
+    check(a.got.number == number && a.got.delivered == unit.delivered && a.got.id == unit.id && a.got.length == unit.length
+              && same_receiver(&a.got.next, &want) && settled(&input) && settled(&buffer)
+              && intact(a.before) && intact(a.behind), "receive", t);
+    saw(RECEIVE, a.got.number);
+    *state = a.got.next;
+    return a.got;
+}
+
+/* ---- inputs */
+static const size_t odd_p[] = {0, 256, 257, 259, 65536, (size_t)1 << 32, SIZE_MAX - 2, SIZE_MAX};
+static size_t some_p(void) {
+    static const size_t edge[] = {1, 2, 3, 254, 255};
+    return one_in(3) ? ONE_OF(edge) : 1 + below(255);
+}
+
+static struct keshgurvat_settings some_settings(size_t p) { /* within the limits, and on them */
+    size_t most = 8190 / (p + 3), n = one_in(4) ? most : 1 + below(one_in(2) && most > 12 ? 12 : most);
+    size_t m[3], s[3], free = n;
+    for (int i = 0; i < 3; i++) {
+        m[i] = one_in(4) ? n : 1 + below(n);
+        s[i] = below((m[i] < free ? m[i] : free) + 1);
+        free -= s[i];
+    }
+    return (struct keshgurvat_settings){p, n, {s[0], s[1], s[2]}, {m[0], m[1], m[2]}};
+}
+static void spoil_settings(struct keshgurvat_settings *s) {
+    static const size_t odd[] = {0, 1, 2047, 2048, SIZE_MAX, SIZE_MAX - 1, SIZE_MAX / 2 + 1};
+    size_t *field[] = {&s->n, &s->share.a, &s->share.b, &s->share.c, &s->ceiling.a, &s->ceiling.b, &s->ceiling.c};
+    size_t i = below(8);
+    if (i == 7) s->p = ONE_OF(odd_p);
+    else if (one_in(2)) *field[i] = ONE_OF(odd);
+    else *field[i] += one_in(2) ? 1 : SIZE_MAX; /* one more, or one less */
+}
+
+static struct keshgurvat_sender some_sender(size_t p) { /* any that is not 17, with rubbish in the places that say nothing */
+    struct keshgurvat_sender t;
+    for (int i = 0; i < 3; i++) {
+        struct keshgurvat_queue *q = &t.q[i];
+        size_t free = 4096, most = one_in(3) ? 4096 : 1 + below(900);
+        for (int k = 0; k < 8; k++) q->left[k] = (uint16_t)draw();
+        q->sent = 0, q->count = 0;
+        for (size_t want = below(9); q->count < want && free; q->count++) {
+            q->left[q->count] = (uint16_t)(1 + below(most < free ? most : free));
+            free -= q->left[q->count];
+        }
+        if (q->count && free && one_in(8)) q->left[q->count - 1] = (uint16_t)(q->left[q->count - 1] + free); /* full to the byte */
+        if (q->count && one_in(2)) q->sent = p * below((4096u - q->left[0]) / p + 1);
+    }
+    t.turn = below(3);
+    for (int i = 0; i < 4; i++) t.index[i] = (uint8_t)below(8);
+    return t;
+}
+static void spoil_sender(struct keshgurvat_sender *t, size_t p) {
+    struct keshgurvat_queue *q = &t->q[below(3)];
+    size_t at = q->count ? below(q->count) : 0;
+    switch (below(10)) {
+    case 0: q->count = one_in(2) ? 9 : SIZE_MAX; break;
+    case 1: q->left[at] = 0; break;
+    case 2: q->left[at] = one_in(2) ? 4097 : 65535; break;
+    case 3: q->left[at] = (uint16_t)(q->left[at] + 4000); break;
+    case 4: q->sent += 1 + below(p); break;
+    case 5: q->sent = p * (4096 / p + below(3)); break;
+    case 6: q->sent = one_in(2) ? SIZE_MAX : SIZE_MAX / p * p; break;
+    case 7: t->turn = one_in(2) ? 3 : SIZE_MAX; break;
+    case 8: t->index[below(4)] = one_in(2) ? 8 : 255; break;
+    default: q->count = 0, q->sent = p;
+    }
+}
+
+/* a packet that is whole, or not; its length is given back */
+static size_t some_packet(uint8_t *to, size_t p, size_t id, size_t index) {
+    uint8_t useful[255];
+    size_t n = one_in(3) ? p : below(p + 1);
+    for (size_t i = 0; i < n; i++) useful[i] = (uint8_t)draw();
+    model_packet(to, p, one_in(3), one_in(3), id, index, useful, one_in(10) ? 0 : n);
+    switch (below(16)) {
+    case 0: to[below(p + 3)] ^= (uint8_t)(1 << below(8)); break;                                           /* a bit turned */
+    case 1: to[0] |= 8, to[1] = (uint8_t)(p - 1 + below(2)), model_seal(to, p); break;                      /* a count of p - 1 or p */
+    case 2: to[0] |= 8, to[1] = 255, model_seal(to, p); break;
+    case 3: to[p] = (uint8_t)draw(), model_seal(to, p); break;                                              /* padding that is not 0 */
+    case 4: to[below(p + 1)] = (uint8_t)draw(), model_seal(to, p); break;
+    case 5: return one_in(2) ? p + 2 : one_in(2) ? p + 4 : below(260);
+    }
+    return p + 3;
+}
+
+/* ---- the tests */
+static void test_disperse(void) {
+    static const size_t edge[] = {0, 1, 510, 511, 512, 1022, 65527, 65528, 65529, 65530};
+    for (unsigned long t = 0; t < 1000; t++) {
+        size_t n = one_in(8) ? below(2000) : below(80);
+        disperse(n, one_in(3) ? n : n + below(40), t);
+        if (n) disperse(n, n - 1 - (one_in(2) ? below(n) : 0), t);
+    }
+    for (size_t i = 0; i < sizeof edge / sizeof edge[0]; i++) {
+        disperse(edge[i], edge[i], 2000 + i), disperse(edge[i], edge[i] + 1, 2000 + i);
+        if (edge[i]) disperse(edge[i], edge[i] - 1, 2000 + i);
+    }
+    uint8_t zero[2] = {0, 0}, once[2], twice[2]; /* 01, example 6 */
+    keshgurvat_disperse(zero, 2, once, 2), keshgurvat_disperse(once, 2, twice, 2);
+    check(once[0] == 0x07 && once[1] == 0xbe && twice[0] == 0 && twice[1] == 0, "07 BE, and back", 0);
+}
+
+static void test_packet_check(void) {
+    static uint8_t packet[600];
+    for (unsigned long t = 0; t < 4000; t++) {
+        size_t p = some_p(), n = some_packet(packet, p, below(4), below(8));
+        packet_check(one_in(20) ? ONE_OF(odd_p) : one_in(30) ? some_p() : p, packet, n, t);
+    }
+}
+
+static void test_settings(void) {
+    for (unsigned long t = 0; t < 4000; t++) {
+        struct keshgurvat_settings s = some_settings(some_p());
+        for (size_t k = below(4); k; k--) spoil_settings(&s);
+        uint32_t got = keshgurvat_settings_check(s);
+        check(got == model_settings(&s), "settings check", t);
+        saw(SETTINGS, got);
+    }
+}
+
+static void test_sender_calls(void) { /* any state, one call */
+    static const size_t units[] = {0, 1, 4095, 4096, 4097, 65528, 65529}, rooms[] = {0, 12287, 12289, 16384};
+    for (unsigned long t = 0; t < 3000; t++) {
+        size_t p = some_p(), room = one_in(20) ? ONE_OF(rooms) : 12288;
+        struct keshgurvat_settings s = some_settings(p);
+        struct keshgurvat_sender state = some_sender(p);
+        if (one_in(12)) spoil_settings(&s);
+        if (one_in(4)) spoil_sender(&state, p);
+        lend(&store, NULL, room);
+        if (t % 2) load(&state, s, room, one_in(12) ? 3 + below(9) : below(3), one_in(6) ? ONE_OF(units) : 1 + below(700), t);
+        else frame(&state, s, room, model_settings(&s) ? below(9000) : s.n * (p + 3) + below(3) - one_in(8), t);
+    }
+}
+
+static void test_receiver_calls(void) { /* any record, one packet */
+    static const size_t rooms[] = {0, 16383, 16385, 4096};
+    static uint8_t packet[600];
+    for (unsigned long t = 0; t < 4000; t++) {
+        size_t p = some_p(), id = below(4), room = one_in(25) ? ONE_OF(rooms) : 16384;
+        struct keshgurvat_receiver r;
+        for (int i = 0; i < 4; i++) {
+            size_t len = one_in(3) ? 4096 - below(p + 2) : below(4097);
+            struct keshgurvat_link k = {!one_in(4), (uint8_t)below(8), one_in(2), (uint16_t)len};
+            if (one_in(60)) k.index = one_in(2) ? 8 : 255;
+            if (one_in(60)) k.len = one_in(2) ? 4097 : 65535;
+            r.link[i] = k;
+        }
+        size_t n = some_packet(packet, p, id, one_in(3) ? below(8) : r.link[id].index % 8u);
+        lend(&buffer, NULL, room);
+        receive(&r, one_in(30) ? ONE_OF(odd_p) : p, room, packet, n, t);
+    }
+}
+
+/* Units of a fresh sender, p unchanged, every packet to a fresh receiver: they come back per id in order, byte for byte. No call meets 17.
+   Where it is `lossy` some packets are lost, and only the model says what comes back. */
+static struct { uint8_t bytes[4096]; size_t length; } sent_units[3][16]; /* the last 16 of each queue, by number */
+static struct keshgurvat_settings run_settings(size_t p, bool large) {
+    struct keshgurvat_settings s = some_settings(p);
+    while (s.n > 40 && !large) s = some_settings(p);
+    return s;
+}
+static void test_run(unsigned long t, bool lossy, bool large) {
+    size_t p = some_p(), given[3] = {0, 0, 0}, back[3] = {0, 0, 0};
+    struct keshgurvat_sender state = keshgurvat_sender_fresh();
+    struct keshgurvat_receiver r = keshgurvat_receiver_fresh();
+    struct keshgurvat_settings s = run_settings(p, large);
+    bool right = true, no_17 = true;
+    lend(&store, NULL, 12288), lend(&buffer, NULL, 16384);
+    for (int step = 0; step < 50; step++) {
+        for (size_t k = below(4); k; k--) {
+            size_t id = one_in(20) ? 3 : below(3), n = one_in(5) ? below(4098) : 1 + below(4 * p);
+            uint32_t number = load(&state, s, 12288, id, n, t);
+            no_17 &= number != 17;
+            if (number) continue;
+            memcpy(sent_units[id][given[id] % 16].bytes, input.model, n);
+            sent_units[id][given[id]++ % 16].length = n;
+        }
+        if (one_in(10)) s = run_settings(p, large);
+        struct keshgurvat_framed f = frame(&state, s, 12288, s.n * (p + 3) + below(2), t);
+        no_17 &= f.number == 0;
+        for (size_t at = 0; at < s.n * (p + 3); at += p + 3) {
+            if (lossy && one_in(6)) continue;
+            struct keshgurvat_received d = receive(&r, p, 16384, output.model + at, p + 3, t);
+            no_17 &= d.number == 0;
+            if (!d.delivered || lossy) continue;
+            size_t k = back[d.id]++;
+            right &= k < given[d.id] && sent_units[d.id][k % 16].length == d.length
+                     && memcmp(sent_units[d.id][k % 16].bytes, buffer.ours + 4096 * d.id, d.length) == 0;
+        }
+    }
+    for (int id = 0; id < 3 && !lossy; id++) right &= back[id] + state.q[id].count == given[id];
+    check(right, "units come back", t), check(no_17, "a run meets no 17", t);
+}
+
+static void test_fresh(void) {
+    struct keshgurvat_sender none = keshgurvat_sender_fresh(), no_unit;
+    struct keshgurvat_receiver silent = keshgurvat_receiver_fresh(), unheard;
+    memset(&no_unit, 0, sizeof no_unit), memset(&unheard, 0, sizeof unheard);
+    check(same_sender(&none, &no_unit, true), "fresh sender", 0), check(same_receiver(&silent, &unheard), "fresh receiver", 0);
+}
+
+static void test_marked(void) { /* 01, examples 9 to 12: N 10, shares 3, 3, 2, ceilings 10, 6, 10; the last is the frame after the third */
+    static const struct { size_t waiting[3], turn, packets[3], filler, then; } marked[] = {
+        {{20, 1, 0}, 0, {9, 1, 0}, 0, 1}, {{0, 20, 0}, 0, {0, 6, 0}, 4, 2},
+        {{20, 20, 20}, 0, {4, 4, 2}, 0, 2}, {{16, 16, 18}, 2, {4, 3, 3}, 0, 1}};
+    struct keshgurvat_settings s = {20, 10, {3, 3, 2}, {10, 6, 10}};
+    for (size_t i = 0; i < 4; i++) {
+        struct keshgurvat_sender state = keshgurvat_sender_fresh();
+        lend(&store, NULL, 12288);
+        for (size_t id = 0; id < 3; id++)
+            if (marked[i].waiting[id]) load(&state, s, 12288, id, 20 * marked[i].waiting[id], i);
+        state.turn = marked[i].turn;
+        struct keshgurvat_framed f = frame(&state, s, 12288, 230, i);
+        const size_t *want = marked[i].packets;
+        check(f.packets.a == want[0] && f.packets.b == want[1] && f.packets.c == want[2] && f.filler == marked[i].filler
+                  && f.next.turn == marked[i].then, "marked example", 9 + i);
+    }
+}
+
+int main(int argc, char **argv) {
+    chance = argc > 1 ? strtoul(argv[1], NULL, 0) : 1;
+    test_fresh();
+    test_marked();
+    test_disperse();
+    test_packet_check();
+    test_settings();
+    test_sender_calls();
+    test_receiver_calls();
+    for (unsigned long t = 0; t < 24; t++) test_run(t, t % 4 == 3, t < 2);
+    test_seen();
+    printf("%lu passed, %lu failed\n", passed, failed);
+    return failed != 0 || passed == 0;
+}
