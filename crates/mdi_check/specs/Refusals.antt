@@ -2,11 +2,14 @@
 -- nothing.
 use Prim.Native.Nat.{ℕ, _-_}
 use mathlib.Core.List.{List, [], _∷_}
-use lib.Dec.{ltb, leb}
+use lib.Dec.{ltb, leb, eqb}
 use lib.ListN.{length}
 use Rattle.laws.specs.Limits.{longest}
+use Rattle.laws.specs.Pick.{pick}
 use Rattle.laws.specs.Refuse.{Test, test, refusedWith, refusedAt}
 use Rattle.items.specs.Items.{Item, cutOf, twice, isThere, placeOf}
+use Rattle.mdi_spots.specs.Spotted.{spotsOf}
+use Rattle.mdi_spots.specs.declared.Spots.{Spots}
 use Rattle.mdi_spots.specs.Table.{missing, badLength}
 use Rattle.mdi_check.specs.Conditions.{badValue, badFac, badSdc, unserved, badDescription, badStreams}
 use Rattle.mdi_check.specs.declared.Verdict.{Verdict}
@@ -33,5 +36,12 @@ testsFor packet =
     ∷ record { holds = isThere (twice (cutOf packet .items)); number = 3; place = placeOf (twice (cutOf packet .items)) }
     ∷ itemTests (cutOf packet .items)
 
+-- where no item is
+abbrev pub nowhere : Spots
+nowhere = spotsOf []
+
+-- the spots of the known items are given with a packet that is not refused
 unfoldable pub checkFor : List ℕ → Verdict
-checkFor packet = record { number = refusedWith (testsFor packet); place = refusedAt (testsFor packet) }
+checkFor packet =
+    let n = refusedWith (testsFor packet) in
+    record { number = n; place = refusedAt (testsFor packet); spots = pick (eqb n 0) (spotsOf (cutOf packet .items)) nowhere }

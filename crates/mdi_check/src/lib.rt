@@ -1,22 +1,49 @@
 // The check of an MDI packet (01, "MDI packet" and "Numbers given back"): the lowest number whose condition holds over the whole packet,
 // and its place.
+use description::Lengths;
 use items::Spot;
 use mdi_spots::Spots;
 ghost use mathlib.Core.Path.{_≡_};
 ghost use mathlib.Core.Bool.{not};
 ghost use Rattle.laws.specs.Refuse.{refusedWith};
-ghost use Rattle.laws.specs.Big.{numberAt, Bytes};
-ghost use lib.ListN.{getD};
+ghost use Rattle.laws.specs.Big.{numberAt};
+ghost use lib.Dec.{eqb};
 ghost use Prim.Native.Nat.{_+_, _<_};
-ghost use Rattle.items.specs.Items.{cutOf};
+ghost use Rattle.items.specs.Items.{cutOf, bytesFor};
 ghost use Rattle.mdi_spots.specs.Spotted.{spotsOf, away};
 ghost use Rattle.mdi_check.specs.Conditions.{protocol, knownMode, onTime, badValue, badFac, badSdc, unserved, badDescription, badStreams};
-ghost use Rattle.mdi_check.specs.Refusals.{itemTests, checkFor};
+ghost use Rattle.mdi_check.specs.Refusals.{itemTests, nowhere, checkFor};
 
-// Number 0: the packet is well formed. The place is an offset in the packet for 2 and 3, else 0.
+// Number 0: the packet is well formed, and its known items stand at these spots. The place is an offset in the packet for 2 and 3, else
+// 0.
 pub struct Verdict {
     pub number: u32,
     pub place: usize,
+    pub spots: Spots,
+}
+
+fn refused(number: u32, place: usize) -> Verdict
+    ensures { λ r. ⌜ r ≡ record { number = number; place = place; spots = nowhere } ⌝ }
+{
+    let away = Spot { start: 0, bits: 0 };
+    let spots = Spots {
+        ptr: away,
+        dlfc: away,
+        fac: away,
+        sdc: away,
+        sdci: away,
+        robm: away,
+        str0: away,
+        str1: away,
+        str2: away,
+        str3: away,
+        tist: away,
+    };
+    Verdict {
+        number,
+        place,
+        spots,
+    }
 }
 
 fn is_there(x: Spot) -> bool
@@ -104,6 +131,13 @@ fn wide(x: u16) -> usize
     x as usize
 }
 
+// Whether a value of so many bits has as many bytes as both parts of a stream.
+fn fills(bits: u32, l: Lengths) -> bool
+    ensures { λ r. ⌜ r ≡ eqb (bytesFor bits) (l .a + l .b) ⌝ }
+{
+    items::bytes(bits) == wide(l.a) + wide(l.b)
+}
+
 // 11
 fn bad_streams(s: &[u8], t: Spots) -> bool
     requires { ⌜ t ≡ spotsOf (cutOf (now s) .items) ⌝ }
@@ -114,10 +148,10 @@ fn bad_streams(s: &[u8], t: Spots) -> bool
     let s1 = d.stream[1];
     let s2 = d.stream[2];
     let s3 = d.stream[3];
-    let same = (items::bytes(t.str0.bits) == wide(s0.a) + wide(s0.b))
-        & (items::bytes(t.str1.bits) == wide(s1.a) + wide(s1.b))
-        & (items::bytes(t.str2.bits) == wide(s2.a) + wide(s2.b))
-        & (items::bytes(t.str3.bits) == wide(s3.a) + wide(s3.b));
+    let same = fills(t.str0.bits, s0)
+        & fills(t.str1.bits, s1)
+        & fills(t.str2.bits, s2)
+        & fills(t.str3.bits, s3);
     is_there(t.sdci) & !same
 }
 
@@ -157,25 +191,24 @@ pub fn check(packet: &[u8]) -> Verdict
     ensures { λ r. ⌜ r ≡ checkFor (now (packet .entry)) ⌝ }
 {
     if 65528 < packet.len() {
-        return Verdict {
-            number: 1,
-            place: 0,
-        };
+        return refused(1, 0);
     }
     let w = items::walk(packet);
     if 8 <= packet.len() - w.stop {
-        return Verdict {
-            number: 2,
-            place: w.stop,
-        };
+        return refused(2, w.stop);
     }
     let again = repeats::first_again(packet);
     if again.found {
-        return Verdict {
-            number: 3,
-            place: again.place,
-        };
+        return refused(3, again.place);
     }
-    let number = check_items(packet, mdi_spots::find_all(packet));
-    Verdict { number, place: 0 }
+    let spots = mdi_spots::find_all(packet);
+    let number = check_items(packet, spots);
+    if number != 0 {
+        return refused(number, 0);
+    }
+    Verdict {
+        number: 0,
+        place: 0,
+        spots,
+    }
 }

@@ -1,0 +1,138 @@
+-- What the calls read out of the spots of a packet is what its items say. Assumes nothing.
+use Prim.Native.Nat.{ℕ, _+_}
+use mathlib.Core.Path.{_≡_, refl, sym, ap, ap₂, _∙_}
+use mathlib.Core.Bool.{Bool, true, false}
+use mathlib.Core.List.{List, [], _∷_}
+use native.Mathlib.Omega.{arith}
+use borrow.Author.Tests.{eq-eqb, ne-eqb}
+use lib.Dec.{eqb}
+use lib.ListN.{length, getD}
+use Rattle.laws.specs.Big.{numberAt}
+use Rattle.laws.specs.Pick.{pick}
+use Rattle.laws.specs.Refuse.{refusedWith, refusedAt}
+use Rattle.clock.specs.Stamps.{decodedFor}
+use Rattle.clock.specs.declared.Given as clocked
+use Rattle.description.specs.Bytes.{describedBy}
+use Rattle.description.specs.declared.Description.{Description}
+use Rattle.fac.specs.Channel.{facOf}
+use Rattle.fac.specs.declared.Fac.{Fac}
+use Rattle.sdc.specs.Block.{sdcOf}
+use Rattle.sdc.specs.declared.Sdc.{Sdc}
+use Rattle.record.specs.Records.{noRecord}
+use Rattle.record.specs.declared.Record.{Record}
+use Rattle.record.specs.declared.Time.{Time}
+use Rattle.record.specs.declared.Time.the-variants.{Absent, Given}
+use Rattle.items.specs.Items.{Item, Found, none, some, cutOf, find, spotOf, valueOf, shownAt}
+use Rattle.items.specs.declared.Spot.{Spot}
+use Rattle.items.proofs.Stands.{value-is}
+use Rattle.mdi_spots.specs.Names.{dlfc, fac, sdc, sdci, robm, str0, str1, str2, str3, tist}
+use Rattle.mdi_spots.specs.Spotted.{spotsOf}
+use Rattle.mdi_spots.specs.declared.Spots.{Spots}
+use Rattle.mdi_check.specs.Refusals.{testsFor, checkFor}
+use Rattle.mdi_check.specs.declared.Verdict.{Verdict}
+use Rattle.mdi.specs.Reading.{timeOf, recordOf, readFor, streamOf, streamFor}
+use Rattle.mdi.specs.declared.Answer.{Answer}
+
+pub first-none : (v : List ℕ) → length v ≡ 0 → 0 ≡ getD v 0 0
+first-none [] h = refl
+first-none (x ∷ v) h = absurd (omega arith)
+
+-- ---- the timestamp
+
+time-away : (f : Found) → spotOf f .start ≡ 0 → Absent ≡ timeOf f
+unfolding spotOf timeOf
+time-away none h = refl
+time-away (some i) h = absurd (omega arith)
+
+time-given : (f : Found) → (spotOf f .start ≡ 0 → ⊥) → Given (decodedFor (valueOf f) .stamp) ≡ timeOf f
+unfolding spotOf timeOf valueOf
+time-given none h = absurd (h refl)
+time-given (some i) h = refl
+
+module _ (S : List ℕ) (x : Spot) (e : x ≡ spotOf (find tist (cutOf S .items))) where
+  pub time-none : x .start ≡ 0 → Absent ≡ timeOf (find tist (cutOf S .items))
+  time-none h = time-away (find tist (cutOf S .items)) (sym (ap (λ (y : Spot). y .start) e) ∙ h)
+
+  pub time-some : (x .start ≡ 0 → ⊥) → (v : List ℕ) → v ≡ shownAt S x → (g : clocked.Given) → g ≡ decodedFor v → Given (g .stamp) ≡ timeOf (find tist (cutOf S .items))
+  time-some h v q g r =
+      let k : v ≡ valueOf (find tist (cutOf S .items)) = q ∙ ap (shownAt S) e ∙ value-is S tist in
+      ap (λ (y : clocked.Given). Given (y .stamp)) (r ∙ ap decodedFor k)
+      ∙ time-given (find tist (cutOf S .items)) (λ z. h (ap (λ (y : Spot). y .start) e ∙ z))
+
+-- ---- the record
+
+shown : (S n : List ℕ) (x : Spot) → x ≡ spotOf (find n (cutOf S .items)) → (v : List ℕ) → v ≡ shownAt S x → v ≡ valueOf (find n (cutOf S .items))
+shown S n x e v q = q ∙ ap (shownAt S) e ∙ value-is S n
+
+pub record-is : (S : List ℕ) (t : Spots) → t ≡ spotsOf (cutOf S .items)
+    → (a b c d e : List ℕ) → a ≡ shownAt S (t .dlfc) → b ≡ shownAt S (t .fac) → c ≡ shownAt S (t .sdc) → d ≡ shownAt S (t .sdci) → e ≡ shownAt S (t .robm)
+    → (count : ℕ) (f : Fac) (s : Sdc) (x : Description) (mode : ℕ) (time : Time)
+    → count ≡ numberAt 4 a 0 → f ≡ facOf b → s ≡ sdcOf c → x ≡ describedBy d → mode ≡ getD e 0 0 → time ≡ timeOf (find tist (cutOf S .items))
+    → _≡_ {A = Record} (record { count = count; fac = f; sdc = s; description = x; robustness = mode; time = time }) (recordOf (cutOf S .items))
+unfolding recordOf spotsOf
+record-is S t h a b c d e pa pb pc pd pe count f s x mode time q1 q2 q3 q4 q5 q6 =
+    let ka = shown S dlfc (t .dlfc) (ap (λ (r : Spots). r .dlfc) h) a pa in
+    let kb = shown S fac (t .fac) (ap (λ (r : Spots). r .fac) h) b pb in
+    let kc = shown S sdc (t .sdc) (ap (λ (r : Spots). r .sdc) h) c pc in
+    let kd = shown S sdci (t .sdci) (ap (λ (r : Spots). r .sdci) h) d pd in
+    let ke = shown S robm (t .robm) (ap (λ (r : Spots). r .robm) h) e pe in
+    rw (q1, q2, q3, q4, q5, q6, ka, kb, kc, kd, ke) refl
+
+module _ (p : List ℕ) (v : Verdict) (e : v ≡ checkFor p) where
+  number-is : v .number ≡ refusedWith (testsFor p)
+  unfolding checkFor
+  number-is = ap (λ (x : Verdict). x .number) e
+
+  place-is : v .place ≡ refusedAt (testsFor p)
+  unfolding checkFor
+  place-is = ap (λ (x : Verdict). x .place) e
+
+  pub read-no : (v .number ≡ 0 → ⊥) → (r : Record) → r ≡ noRecord → _≡_ {A = Answer} (record { number = v .number; place = v .place; content = r }) (readFor p)
+  unfolding readFor
+  read-no h r q = rw (q, ← number-is, ← place-is, ne-eqb (v .number) 0 h) refl
+
+  pub spots-are : v .number ≡ 0 → v .spots ≡ spotsOf (cutOf p .items)
+  unfolding checkFor
+  spots-are z = ap (λ (x : Verdict). x .spots) e ∙ rw (eq-eqb (refusedWith (testsFor p)) 0 (sym number-is ∙ z)) refl
+
+  pub read-yes : v .number ≡ 0 → (r : Record) → r ≡ recordOf (cutOf p .items) → _≡_ {A = Answer} (record { number = v .number; place = v .place; content = r }) (readFor p)
+  unfolding readFor
+  read-yes z r q = rw (q, ← number-is, ← place-is, eq-eqb (v .number) 0 z) refl
+
+  -- ---- the streams
+
+  pub stream-no : (n : ℕ) → (v .number ≡ 0 → ⊥) → [] ≡ streamFor p n
+  unfolding streamFor
+  stream-no n h = rw (← number-is, ne-eqb (v .number) 0 h) refl
+
+  module _ (z : v .number ≡ 0) (n : ℕ) where
+    here : streamFor p n ≡ streamOf (cutOf p .items) n
+    unfolding streamFor
+    here = rw (← number-is, eq-eqb (v .number) 0 z) refl
+
+    pub stream-0 : n ≡ 0 → (w : List ℕ) → w ≡ shownAt p (v .spots .str0) → w ≡ streamFor p n
+    unfolding streamOf spotsOf
+    stream-0 h w q = shown p str0 (v .spots .str0) (ap (λ (r : Spots). r .str0) (spots-are z)) w q ∙ sym (here ∙ rw (eq-eqb n 0 h) refl)
+
+    module _ (h0 : n ≡ 0 → ⊥) where
+      pub stream-1 : n ≡ 1 → (w : List ℕ) → w ≡ shownAt p (v .spots .str1) → w ≡ streamFor p n
+      unfolding streamOf spotsOf
+      stream-1 h w q = shown p str1 (v .spots .str1) (ap (λ (r : Spots). r .str1) (spots-are z)) w q ∙ sym (here ∙ rw (ne-eqb n 0 h0, eq-eqb n 1 h) refl)
+
+      module _ (h1 : n ≡ 1 → ⊥) where
+        pub stream-2 : n ≡ 2 → (w : List ℕ) → w ≡ shownAt p (v .spots .str2) → w ≡ streamFor p n
+        unfolding streamOf spotsOf
+        stream-2 h w q = shown p str2 (v .spots .str2) (ap (λ (r : Spots). r .str2) (spots-are z)) w q ∙ sym (here ∙ rw (ne-eqb n 0 h0, ne-eqb n 1 h1, eq-eqb n 2 h) refl)
+
+        module _ (h2 : n ≡ 2 → ⊥) where
+          pub stream-3 : n ≡ 3 → (w : List ℕ) → w ≡ shownAt p (v .spots .str3) → w ≡ streamFor p n
+          unfolding streamOf spotsOf
+          stream-3 h w q = shown p str3 (v .spots .str3) (ap (λ (r : Spots). r .str3) (spots-are z)) w q ∙ sym (here ∙ rw (ne-eqb n 0 h0, ne-eqb n 1 h1, ne-eqb n 2 h2, eq-eqb n 3 h) refl)
+
+          pub stream-over : (n ≡ 3 → ⊥) → [] ≡ streamFor p n
+          unfolding streamOf
+          stream-over h = sym (here ∙ rw (ne-eqb n 0 h0, ne-eqb n 1 h1, ne-eqb n 2 h2, ne-eqb n 3 h) refl)
+
+pub time-spot : (S : List ℕ) (t : Spots) → t ≡ spotsOf (cutOf S .items) → t .tist ≡ spotOf (find tist (cutOf S .items))
+unfolding spotsOf
+time-spot S t e = ap (λ (r : Spots). r .tist) e
