@@ -110,6 +110,15 @@ module _ (S : List ℕ) (at count n : ℕ) (w : Walking S at count) (size : n �
 
 pub ruleset walks = (walking-first, walking-done, walking-more)
 
+-- the length of an item, at an offset
+pub bits-later : (S : List ℕ) (at n : ℕ) → n ≡ sizeAt S at → (n ≡ 0 → ⊥) → bitsAt (drop at S) ≡ numberAt 4 S (at + 4)
+unfolding bitsAt
+bits-later S at n size some′ =
+    let f = at-fits S at n size some′ in
+    let a = f .0 in
+    let b = f .1 in
+    number-later S at (omega arith)
+
 -- ---- `find`
 
 pub record Finding (S N : List ℕ) (at : ℕ) : Type 0 where

@@ -1,3 +1,7 @@
 pub mod Items
 pub mod Meaning
 pub mod Accepts
+pub mod Ignored
+pub mod Stood
+pub mod Back
+pub mod Again

@@ -10,14 +10,6 @@ use Rattle.mdi_spots.specs.Table.{exactly, wholeBytes, sdcBits, sdciBits
 use Rattle.mdi_spots.specs.Spotted.{spotsOf, away, wrongAt, missingAt, badLengthAt}
 use Rattle.mdi_spots.specs.declared.Spots.{Spots}
 
-pub spots-are : (is : List Item) (a b c d e f g h i j k : Spot)
-    → a ≡ spotOf (find ptr is) → b ≡ spotOf (find dlfc is) → c ≡ spotOf (find fac is) → d ≡ spotOf (find sdc is) → e ≡ spotOf (find sdci is)
-    → f ≡ spotOf (find robm is) → g ≡ spotOf (find str0 is) → h ≡ spotOf (find str1 is) → i ≡ spotOf (find str2 is) → j ≡ spotOf (find str3 is)
-    → k ≡ spotOf (find tist is)
-    → _≡_ {A = Spots} (record { ptr = a; dlfc = b; fac = c; sdc = d; sdci = e; robm = f; str0 = g; str1 = h; str2 = i; str3 = j; tist = k }) (spotsOf is)
-unfolding spotsOf
-spots-are is a b c d e f g h i j k p q r s t u v w x y z = rw (p, q, r, s, t, u, v, w, x, y, z) refl
-
 pub missing-at : (t : Spots) (a b c d e : Bool)
     → a ≡ away (t .ptr) → b ≡ away (t .dlfc) → c ≡ away (t .fac) → d ≡ away (t .sdci) → e ≡ away (t .robm) → (a || b || c || d || e) ≡ missingAt t
 unfolding missingAt

@@ -4,6 +4,8 @@ use Prim.Native.Nat.{ℕ}
 use mathlib.Core.Bool.{Bool, _&&_, _||_, not}
 use mathlib.Core.List.{List}
 use lib.Dec.{eqb}
+use Rattle.laws.specs.Big.{numberAt}
+use Rattle.laws.specs.Pick.{pick}
 use Rattle.items.specs.Items.{Item, find, spotOf}
 use Rattle.items.specs.declared.Spot.{Spot}
 use Rattle.mdi_spots.specs.Names.{ptr, dlfc, fac, sdc, sdci, robm, str0, str1, str2, str3, tist}
@@ -26,6 +28,29 @@ spotsOf is =
       tist = spotOf (find tist is);
     }
 
+-- ---- one pass over the items
+-- the spot of a name after an item, of that name or not, that stands at x: the first item of the name stays
+unfoldable pub noted : Spot → Bool → Spot → Spot
+noted old same x = pick (same && eqb (old .start) 0) x old
+
+-- all spots after an item whose name has this number
+unfoldable pub notedAll : Spots → ℕ → Spot → Spots
+notedAll t key x =
+    record {
+      ptr = noted (t .ptr) (eqb key (numberAt 4 ptr 0)) x;
+      dlfc = noted (t .dlfc) (eqb key (numberAt 4 dlfc 0)) x;
+      fac = noted (t .fac) (eqb key (numberAt 4 fac 0)) x;
+      sdc = noted (t .sdc) (eqb key (numberAt 4 sdc 0)) x;
+      sdci = noted (t .sdci) (eqb key (numberAt 4 sdci 0)) x;
+      robm = noted (t .robm) (eqb key (numberAt 4 robm 0)) x;
+      str0 = noted (t .str0) (eqb key (numberAt 4 str0 0)) x;
+      str1 = noted (t .str1) (eqb key (numberAt 4 str1 0)) x;
+      str2 = noted (t .str2) (eqb key (numberAt 4 str2 0)) x;
+      str3 = noted (t .str3) (eqb key (numberAt 4 str3 0)) x;
+      tist = noted (t .tist) (eqb key (numberAt 4 tist 0)) x;
+    }
+
+-- ---- 4 and 5
 -- no value starts at 0: a header stands before it
 abbrev pub away : Spot → Bool
 away x = eqb (x .start) 0

@@ -3,9 +3,11 @@
 use items::Spot;
 ghost use mathlib.Core.Path.{_≡_};
 ghost use lib.Dec.{eqb};
+ghost use mathlib.Core.List.{[]};
+ghost use Rattle.laws.specs.Big.{numberAt};
 ghost use Rattle.items.specs.Items.{cutOf};
 ghost use Rattle.mdi_spots.specs.Table.{exactly, wholeBytes, sdcBits, sdciBits};
-ghost use Rattle.mdi_spots.specs.Spotted.{spotsOf, away, wrongAt, missingAt, badLengthAt};
+ghost use Rattle.mdi_spots.specs.Spotted.{spotsOf, noted, notedAll, away, wrongAt, missingAt, badLengthAt};
 
 // One spot a known name, in the table's order.
 pub struct Spots {
@@ -22,20 +24,41 @@ pub struct Spots {
     pub tist: Spot,
 }
 
-pub fn find_all(s: &[u8]) -> Spots
-    ensures { λ r. ⌜ r ≡ spotsOf (cutOf (now (s .entry)) .items) ⌝ }
+// Four bytes as a number.
+fn number_of(name: &[u8]) -> u32
+    ensures { λ r. ⌜ r ≡ numberAt 4 (now (name .entry)) 0 ⌝ }
 {
-    let ptr = items::find(s, b"*ptr");
-    let dlfc = items::find(s, b"dlfc");
-    let fac = items::find(s, b"fac_");
-    let sdc = items::find(s, b"sdc_");
-    let sdci = items::find(s, b"sdci");
-    let robm = items::find(s, b"robm");
-    let str0 = items::find(s, b"str0");
-    let str1 = items::find(s, b"str1");
-    let str2 = items::find(s, b"str2");
-    let str3 = items::find(s, b"str3");
-    let tist = items::find(s, b"tist");
+    fields::read32(name, 0)
+}
+
+// The spot of a name after an item at x: the first item of the name stays.
+fn note(old: Spot, key: u32, name: u32, x: Spot) -> Spot
+    ensures { λ r. ⌜ r ≡ noted old (eqb key name) x ⌝ }
+{
+    if key != name {
+        return old;
+    }
+    if old.start != 0 {
+        return old;
+    }
+    x
+}
+
+// All spots after an item at x whose name has this number.
+fn note_all(t: Spots, key: u32, x: Spot) -> Spots
+    ensures { λ r. ⌜ r ≡ notedAll t key x ⌝ }
+{
+    let ptr = note(t.ptr, key, number_of(b"*ptr"), x);
+    let dlfc = note(t.dlfc, key, number_of(b"dlfc"), x);
+    let fac = note(t.fac, key, number_of(b"fac_"), x);
+    let sdc = note(t.sdc, key, number_of(b"sdc_"), x);
+    let sdci = note(t.sdci, key, number_of(b"sdci"), x);
+    let robm = note(t.robm, key, number_of(b"robm"), x);
+    let str0 = note(t.str0, key, number_of(b"str0"), x);
+    let str1 = note(t.str1, key, number_of(b"str1"), x);
+    let str2 = note(t.str2, key, number_of(b"str2"), x);
+    let str3 = note(t.str3, key, number_of(b"str3"), x);
+    let tist = note(t.tist, key, number_of(b"tist"), x);
     Spots {
         ptr,
         dlfc,
@@ -48,6 +71,45 @@ pub fn find_all(s: &[u8]) -> Spots
         str2,
         str3,
         tist,
+    }
+}
+
+fn nowhere() -> Spots
+    ensures { λ r. ⌜ r ≡ spotsOf [] ⌝ }
+{
+    let away = Spot { start: 0, bits: 0 };
+    Spots {
+        ptr: away,
+        dlfc: away,
+        fac: away,
+        sdc: away,
+        sdci: away,
+        robm: away,
+        str0: away,
+        str1: away,
+        str2: away,
+        str3: away,
+        tist: away,
+    }
+}
+
+// In one pass over the items.
+pub fn find_all(s: &[u8]) -> Spots
+    ensures { λ r. ⌜ r ≡ spotsOf (cutOf (now (s .entry)) .items) ⌝ }
+{
+    let mut t = nowhere();
+    let mut at: usize = 0;
+    loop {
+        let n = items::size_at(s, at);
+        if n == 0 {
+            return t;
+        }
+        let x = Spot {
+            start: at + 8,
+            bits: fields::read32(s, at + 4),
+        };
+        t = note_all(t, fields::read32(s, at), x);
+        at += n;
     }
 }
 

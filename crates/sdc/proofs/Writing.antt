@@ -72,18 +72,18 @@ take-capped body n l = go (ltb most n) refl
     go false e = refl
 
 module _ (s : Sdc) where
-  pub length-none : s .head ≡ Absent → 0 ≡ length (sdcBytes s)
+  pub length-none : s .head ≡ Absent → (0 ≡ length (sdcBytes s)) × (0 ≤ 1027)
   unfolding sdcBytes blockBytes
-  length-none e = rw e refl
+  length-none e = (rw e refl, omega arith)
 
-  pub length-given : (afs size n : ℕ) → s .head ≡ Given afs size → length (s .body) ≡ 1024 → (n ≡ capped size) × (n ≤ 1024) × (n ≤ size) → n + 3 ≡ length (sdcBytes s)
+  pub length-given : (afs size n : ℕ) → s .head ≡ Given afs size → length (s .body) ≡ 1024 → (n ≡ capped size) × (n ≤ 1024) × (n ≤ size) → (n + 3 ≡ length (sdcBytes s)) × (n + 3 ≤ 1027)
   unfolding sdcBytes blockBytes
   length-given afs size n e l q =
       let t : length (take size (s .body)) ≡ n =
       sym (ap length (take-capped (s .body) size l))
       ∙ ap (λ (k : ℕ). length (take k (s .body))) (sym (q .0))
       ∙ length-take-le n (s .body) (let h = q .1 in omega arith) in
-      rw e (sym (sealed-length (afs ∷ take size (s .body)) ∙ (let h = t in omega arith)))
+      (rw e (sym (sealed-length (afs ∷ take size (s .body)) ∙ (let h = t in omega arith))), (let h = q .1 in omega arith))
 
   module _ (out : List ℕ) (at : ℕ) where
     pub put-none : s .head ≡ Absent → out ≡ placed out at (sdcBytes s)

@@ -126,7 +126,7 @@ pub fn too_large(s: Sdc) -> bool
 
 // How many bytes the value of the block has.
 pub fn value_length(s: Sdc) -> usize
-    ensures { λ r. ⌜ r ≡ length (sdcBytes s) ⌝ }
+    ensures { λ r. ⌜ (r ≡ length (sdcBytes s)) × (r ≤ 1027) ⌝ }
 {
     let head = s.head;
     match head {

@@ -1,84 +1,102 @@
-use Rattle.mdi_spots.proofs.Ways.{spots-are}
+use Rattle.mdi_spots.proofs.Pass.{Passing, passing-first, passing-done, passing-more}
+use Rattle.items.proofs.Rule.{at-fits}
 use borrow.Author.Needs.{needs}
+use native.Mathlib.Omega.{arith}
+use lib.ListN.{length}
+use Prim.Native.Nat.{_-_}
 use Rattle.mdi_spots.proofs.find_all.Statement.{statement}
 use Rattle.mdi_spots.proofs.find_all.Tie as tie
 use Rattle.mdi_spots.proofs.find_all.Reads as reads
 use Rattle.mdi_spots.proofs.find_all.Lts as lts
-use Rattle.items.proofs.find.Reads as find-reads
+use Rattle.fields.proofs.read32.Reads as read32-reads
+use Rattle.items.proofs.size_at.Reads as size-at-reads
+use Rattle.mdi_spots.proofs.note_all.Reads as note-all-reads
+use Rattle.mdi_spots.proofs.nowhere.Reads as nowhere-reads
 
--- src/lib.rt:28:9
-find-requires : tie.Need-find-requires
-find-requires c κs = search needs
+abbrev Inv-loop : tie.InvT-loop
+Inv-loop s t₀ at₀ t at = Passing s t at
 
--- src/lib.rt:29:9
-find-requires-2 : tie.Need-find-requires-2
-find-requires-2 c κs = search needs
+abbrev μ-loop : tie.MeasureT-loop
+μ-loop s t₀ at₀ t at = length s - at
 
--- src/lib.rt:30:9
-find-requires-3 : tie.Need-find-requires-3
-find-requires-3 c κs = search needs
+-- src/lib.rt:100:9
+nowhere-requires : tie.Need-nowhere-requires Inv-loop μ-loop
+nowhere-requires c κs =
+    search needs
 
--- src/lib.rt:31:9
-find-requires-4 : tie.Need-find-requires-4
-find-requires-4 c κs = search needs
+-- src/lib.rt:102:5
+loop-holds : tie.Need-loop-holds Inv-loop μ-loop
+loop-holds c =
+    search passing-first
 
--- src/lib.rt:32:9
-find-requires-5 : tie.Need-find-requires-5
-find-requires-5 c κs = search needs
+-- src/lib.rt:103:13
+size-at-requires : tie.Need-size-at-requires Inv-loop μ-loop
+size-at-requires c κs =
+    search needs
 
--- src/lib.rt:33:9
-find-requires-6 : tie.Need-find-requires-6
-find-requires-6 c κs = search needs
-
--- src/lib.rt:34:9
-find-requires-7 : tie.Need-find-requires-7
-find-requires-7 c κs = search needs
-
--- src/lib.rt:35:9
-find-requires-8 : tie.Need-find-requires-8
-find-requires-8 c κs = search needs
-
--- src/lib.rt:36:9
-find-requires-9 : tie.Need-find-requires-9
-find-requires-9 c κs = search needs
-
--- src/lib.rt:37:9
-find-requires-10 : tie.Need-find-requires-10
-find-requires-10 c κs = search needs
-
--- src/lib.rt:38:9
-find-requires-11 : tie.Need-find-requires-11
-find-requires-11 c κs = search needs
-
--- src/lib.rt:25:1
-returns : tie.Need-returns
+-- src/lib.rt:105:13
+returns : tie.Need-returns Inv-loop μ-loop
 returns c =
-    let b11 = c in
-    let b10 = b11 .before .before in
-    let b9 = b10 .before .before in
-    let b8 = b9 .before .before in
-    let b7 = b8 .before .before in
-    let b6 = b7 .before .before in
-    let b5 = b6 .before .before in
-    let b4 = b5 .before .before in
-    let b3 = b4 .before .before in
-    let b2 = b3 .before .before in
-    let b1 = b2 .before .before in
-    spots-are _ _ _ _ _ _ _ _ _ _ _ _ (b1 .find .ensures) (b2 .find2 .ensures) (b3 .find3 .ensures) (b4 .find4 .ensures) (b5 .find5 .ensures) (b6 .find6 .ensures) (b7 .find7 .ensures) (b8 .find8 .ensures) (b9 .find9 .ensures) (b10 .find10 .ensures) (b11 .find11 .ensures)
+    search passing-done
+
+-- src/lib.rt:108:20
+add-t7 : tie.Need-add-t7 Inv-loop μ-loop
+add-t7 c =
+    let f = at-fits _ _ _ (c .before .size-at .ensures) (c .if1 .left) in search needs
+
+-- src/lib.rt:109:37
+add-read32 : tie.Need-add-read32 Inv-loop μ-loop
+add-read32 c =
+    let f = at-fits _ _ _ (c .before .size-at .ensures) (c .if1 .left) in search needs
+
+-- src/lib.rt:109:19
+read32-requires : tie.Need-read32-requires Inv-loop μ-loop
+read32-requires c κs =
+    search needs
+
+-- src/lib.rt:111:25
+read32-requires-2 : tie.Need-read32-requires-2 Inv-loop μ-loop
+read32-requires-2 c κs =
+    search needs
+
+-- src/lib.rt:111:9
+note-all-requires : tie.Need-note-all-requires Inv-loop μ-loop
+note-all-requires c κs =
+    search needs
+
+-- src/lib.rt:112:9
+add-at : tie.Need-add-at Inv-loop μ-loop
+add-at c =
+    let f = at-fits _ _ _ (c .before .before .before .before .size-at .ensures) (c .before .before .before .if1 .left) in search needs
+
+-- src/lib.rt:102:5
+loop-less : tie.Need-loop-less Inv-loop μ-loop
+loop-less c =
+    let f = at-fits _ _ _ (c .before .before .before .before .size-at .ensures) (c .before .before .before .if1 .left) in omega arith
+
+-- src/lib.rt:102:5
+loop-again : tie.Need-loop-again Inv-loop μ-loop
+loop-again c =
+    let e = c .before .before .before in
+    let l = e .before .before in
+    let k = l .before .before in
+    passing-more (k .before .args .s .now) _ _ _ (l .loop .inv) (e .before .size-at .ensures) (e .if1 .left) (λ j. omega (arith, k .shared-slice-known .given j)) _ _ (c .before .read322 .ensures) (c .before .before .read32 .ensures) _ (c .note-all .ensures)
 
 pub find-all-spec : {M : Type 1} → statement M
 find-all-spec =
     tie.close
     (tie.spec
-    find-requires
-    find-requires-2
-    find-requires-3
-    find-requires-4
-    find-requires-5
-    find-requires-6
-    find-requires-7
-    find-requires-8
-    find-requires-9
-    find-requires-10
-    find-requires-11
-    returns)
+    Inv-loop
+    μ-loop
+    nowhere-requires
+    loop-holds
+    size-at-requires
+    returns
+    add-t7
+    add-read32
+    read32-requires
+    read32-requires-2
+    note-all-requires
+    add-at
+    loop-less
+    loop-again)
