@@ -1,4 +1,5 @@
 // Calls 16 and 17: a frame built from its streams, and cut into them.
+use case_values::Four;
 use cases::answer;
 use cases::case;
 use description::Description;
@@ -16,50 +17,6 @@ fn described(body: &[u8]) -> Description {
 
 fn mode_in(body: &[u8]) -> u8 {
     case::byte(body, HEAD - 1)
-}
-
-// Two buffers of a case, one behind the other.
-struct Two {
-    whole: bool,
-    a: usize,
-    b: usize,
-    next: usize,
-}
-
-fn two_at(body: &[u8], at: usize, x: &mut [u8], y: &mut [u8]) -> Two {
-    let a = case::buffer(body, at, x);
-    let b = case::buffer(body, a.next, y);
-    Two {
-        whole: a.whole & b.whole,
-        a: a.len,
-        b: b.len,
-        next: b.next,
-    }
-}
-
-// The streams or outputs of a case, two and two.
-struct Four {
-    t: Two,
-    u: Two,
-}
-
-fn four_at(body: &[u8], at: usize, w: &mut [u8], x: &mut [u8], y: &mut [u8], z: &mut [u8]) -> Four {
-    let t = two_at(body, at, w, x);
-    let u = two_at(body, t.next, y, z);
-    Four { t, u }
-}
-
-// Where the body goes on behind the four.
-fn behind(n: Four) -> usize {
-    let u = n.u;
-    u.next
-}
-
-// All stand whole in the body, and the last of them ends it.
-fn ready(n: Four, s: case::Taken, end: usize) -> bool {
-    let t = n.t;
-    let u = n.u;
-    s.whole & t.whole & u.whole & ((s.next == end) | (u.next == end))
 }
 
 fn written(
@@ -117,9 +74,9 @@ pub(crate) fn build(
     five: &mut [u8],
     out: &mut [u8],
 ) -> usize {
-    let n = four_at(body, HEAD, one, two, three, four);
-    let s = case::buffer(body, behind(n), five);
-    if ready(n, s, body.len()) {
+    let n = case_values::four_at(body, HEAD, one, two, three, four);
+    let s = case::buffer(body, case_values::behind(n), five);
+    if case_values::ready(n, s, body.len()) {
         return built(body, one, two, three, four, n, five, s.len, out);
     }
     answer::none(out)
@@ -204,8 +161,8 @@ pub(crate) fn cut(
     out: &mut [u8],
 ) -> usize {
     let s = case::buffer(body, HEAD, one);
-    let n = four_at(body, s.next, two, three, four, five);
-    if ready(n, s, body.len()) {
+    let n = case_values::four_at(body, s.next, two, three, four, five);
+    if case_values::ready(n, s, body.len()) {
         return cut_whole(body, one, s.len, two, three, four, five, n, out);
     }
     answer::none(out)

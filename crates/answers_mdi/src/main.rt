@@ -2,6 +2,7 @@
 mod channels;
 mod packets;
 mod successors;
+mod writing;
 
 use cases::answer;
 use cases::case;
@@ -21,6 +22,7 @@ fn answer_to(
     match call {
         40 => packets::read(body, one, out),
         41 => packets::stream(body, one, out),
+        42 => writing::write(body, one, two, three, four, five, out),
         43 => channels::read(body, one, out),
         44 => channels::write(body, one, out),
         45 => successors::follows(body, out),

@@ -83,3 +83,54 @@ pub fn tell_stamp(out: &mut [u8], at: usize, t: Stamp) -> usize
 {
     answer::three(out, at, wide16(t.utco), t.seconds, wide16(t.milliseconds))
 }
+
+// Two buffers of a case, one behind the other.
+pub struct Two {
+    pub whole: bool,
+    pub a: usize,
+    pub b: usize,
+    pub next: usize,
+}
+
+fn two_at(body: &[u8], at: usize, x: &mut [u8], y: &mut [u8]) -> Two {
+    let a = case::buffer(body, at, x);
+    let b = case::buffer(body, a.next, y);
+    Two {
+        whole: a.whole & b.whole,
+        a: a.len,
+        b: b.len,
+        next: b.next,
+    }
+}
+
+// The streams or outputs of a case, two and two.
+pub struct Four {
+    pub t: Two,
+    pub u: Two,
+}
+
+pub fn four_at(
+    body: &[u8],
+    at: usize,
+    w: &mut [u8],
+    x: &mut [u8],
+    y: &mut [u8],
+    z: &mut [u8],
+) -> Four {
+    let t = two_at(body, at, w, x);
+    let u = two_at(body, t.next, y, z);
+    Four { t, u }
+}
+
+// Where the body goes on behind the four.
+pub fn behind(n: Four) -> usize {
+    let u = n.u;
+    u.next
+}
+
+// All stand whole in the body, and the last of them ends it.
+pub fn ready(n: Four, s: case::Taken, end: usize) -> bool {
+    let t = n.t;
+    let u = n.u;
+    s.whole & t.whole & u.whole & ((s.next == end) | (u.next == end))
+}

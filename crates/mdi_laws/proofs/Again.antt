@@ -177,9 +177,10 @@ module _ (p : List ℕ) (b : Bytes p) (e : refusedWith (testsFor p) ≡ 0) where
       let c : readFor p .content ≡ recordOf (cutOf p .items) = ap (λ (a : Answer). a .content) read-is in
       let s = stream-back (recordOf (cutOf p .items)) (streamsIn (cutOf p .items)) typed fits-read in
       let q = streams-are in
-      rw (q, c)
-      (sym (ap (λ (x : Record). readFor (packetOf x (streamsIn (cutOf p .items)))) c) ∙ again,
-      s .0 ∙ sym (ap (λ (x : Streams). x .s0) q),
-      s .1 ∙ sym (ap (λ (x : Streams). x .s1) q),
-      s .2 ∙ sym (ap (λ (x : Streams). x .s2) q),
-      s .3 ∙ sym (ap (λ (x : Streams). x .s3) q))
+      rw (q, c) (
+        sym (ap (λ (x : Record). readFor (packetOf x (streamsIn (cutOf p .items)))) c) ∙ again,
+        s .0 ∙ sym (ap (λ (x : Streams). x .s0) q),
+        s .1 ∙ sym (ap (λ (x : Streams). x .s1) q),
+        s .2 ∙ sym (ap (λ (x : Streams). x .s2) q),
+        s .3 ∙ sym (ap (λ (x : Streams). x .s3) q),
+      )

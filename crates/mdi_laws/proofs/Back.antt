@@ -188,18 +188,37 @@ module _ (r : Record) (ss : Streams) (ty : Typed r) (fits : Fits r ss) where
       let s = sdc-most r ss ty fits in
       let d = sdci-length r ss ty fits in
       let k = well r ss ty fits .most in
-      let t = time-most (r .time) in
-      (sound name.ptr opening refl (omega arith),
-      (sound name.dlfc (bytesOf 4 (r .count)) refl (omega arith),
-      (sound name.fac (fast.facBytes (r .fac)) refl (omega arith),
-      (sound name.sdc (block.sdcBytes (r .sdc)) refl (omega arith),
-      (sound name.sdci (described.valueOf (r .description)) refl (omega arith),
-      (sound name.robm (r .robustness ∷ []) refl (omega arith),
-      (sound name.str0 (ss .s0) refl (n .0),
-      (sound name.str1 (ss .s1) refl (n .1),
-      (sound name.str2 (ss .s2) refl (n .2),
-      (sound name.str3 (ss .s3) refl (n .3),
-      (sound name.tist (timeBytes (r .time)) refl (omega arith), tt)))))))))))
+      let t = time-most (r .time) in (
+        sound name.ptr opening refl (omega arith),
+        (
+          sound name.dlfc (bytesOf 4 (r .count)) refl (omega arith),
+          (
+            sound name.fac (fast.facBytes (r .fac)) refl (omega arith),
+            (
+              sound name.sdc (block.sdcBytes (r .sdc)) refl (omega arith),
+              (
+                sound name.sdci (described.valueOf (r .description)) refl (omega arith),
+                (
+                  sound name.robm (r .robustness ∷ []) refl (omega arith),
+                  (
+                    sound name.str0 (ss .s0) refl (n .0),
+                    (
+                      sound name.str1 (ss .s1) refl (n .1),
+                      (
+                        sound name.str2 (ss .s2) refl (n .2),
+                        (
+                          sound name.str3 (ss .s3) refl (n .3),
+                          (sound name.tist (timeBytes (r .time)) refl (omega arith), tt),
+                        ),
+                      ),
+                    ),
+                  ),
+                ),
+              ),
+            ),
+          ),
+        ),
+      )
 
   distinct : Distinct (table r ss)
   unfolding table headRows streamRows find sameName
@@ -347,7 +366,7 @@ module _ (r : Record) (ss : Streams) (ty : Typed r) (fits : Fits r ss) where
         size-stood (find name.fac (cutOf (packetOf r ss) .items)) (fast.facBytes (r .fac)) (exactly 72) st-fac (λ z. ap (λ (n : ℕ). exactly 72 (8 * n)) (channel.value-length (r .fac))),
         size-stood (find name.sdc (cutOf (packetOf r ss) .items)) (block.sdcBytes (r .sdc)) sdcBits st-sdc (λ z. sdc-ok (length (block.sdcBytes (r .sdc))) (sdc-size r ss ty fits)),
         size-stood (find name.sdci (cutOf (packetOf r ss) .items)) (described.valueOf (r .description)) sdciBits st-sdci
-        (λ z. ap (λ (n : ℕ). sdciBits (8 * n)) (sdci-length r ss ty fits) ∙ sdci-ok (r .description .count) (well r ss ty fits .one) (well r ss ty fits .most)),
+            (λ z. ap (λ (n : ℕ). sdciBits (8 * n)) (sdci-length r ss ty fits) ∙ sdci-ok (r .description .count) (well r ss ty fits .one) (well r ss ty fits .most)),
         size-stood (find name.robm (cutOf (packetOf r ss) .items)) (r .robustness ∷ []) (exactly 8) st-robm (λ z. refl),
         size-stood (find name.str0 (cutOf (packetOf r ss) .items)) (ss .s0) wholeBytes st-str0 (λ z. bytes-ok (length (ss .s0))),
         size-stood (find name.str1 (cutOf (packetOf r ss) .items)) (ss .s1) wholeBytes st-str1 (λ z. bytes-ok (length (ss .s1))),
@@ -384,19 +403,34 @@ module _ (r : Record) (ss : Streams) (ty : Typed r) (fits : Fits r ss) where
   free-items : refusedWith (itemTests (cutOf (packetOf r ss) .items)) ≡ 0
   unfolding itemTests badFac badSdc unserved badDescription badStreams
   free-items =
-      accepted (itemTests (cutOf (packetOf r ss) .items))
-      (nothing-missing,
-      (good-lengths,
-      (good-values,
-      (good-stood (find name.fac (cutOf (packetOf r ss) .items)) (fast.facBytes (r .fac)) fast.sealed st-fac (λ z. channel.sealed-back (r .fac)),
-      (good-stood (find name.sdc (cutOf (packetOf r ss) .items)) (block.sdcBytes (r .sdc)) block.sealed st-sdc (λ z. blocks.sealed-back (r .sdc) (sdc-whole r ss ty fits)),
-      (good-stood (find name.fac (cutOf (packetOf r ss) .items)) (fast.facBytes (r .fac)) served st-fac (λ z. is-served),
-      (good-stood (find name.sdci (cutOf (packetOf r ss) .items)) (described.valueOf (r .description))
-      (λ v. not (forms.illFormed (mscMode (cutOf (packetOf r ss) .items)) (described.describedBy v))) st-sdci (λ z. good-description),
-      (good-stood (find name.sdci (cutOf (packetOf r ss) .items)) (described.valueOf (r .description))
-      (λ v. agrees (cutOf (packetOf r ss) .items) (described.describedBy v)) st-sdci
-      (λ z. ap (agrees (cutOf (packetOf r ss) .items)) described-is ∙ agrees-is),
-      tt))))))))
+      accepted (itemTests (cutOf (packetOf r ss) .items)) (
+        nothing-missing,
+        (
+          good-lengths,
+          (
+            good-values,
+            (
+              good-stood (find name.fac (cutOf (packetOf r ss) .items)) (fast.facBytes (r .fac)) fast.sealed st-fac (λ z. channel.sealed-back (r .fac)),
+              (
+                good-stood (find name.sdc (cutOf (packetOf r ss) .items)) (block.sdcBytes (r .sdc)) block.sealed st-sdc (λ z. blocks.sealed-back (r .sdc) (sdc-whole r ss ty fits)),
+                (
+                  good-stood (find name.fac (cutOf (packetOf r ss) .items)) (fast.facBytes (r .fac)) served st-fac (λ z. is-served),
+                  (
+                    good-stood (find name.sdci (cutOf (packetOf r ss) .items)) (described.valueOf (r .description))
+                        (λ v. not (forms.illFormed (mscMode (cutOf (packetOf r ss) .items)) (described.describedBy v))) st-sdci (λ z. good-description),
+                    (
+                      good-stood (find name.sdci (cutOf (packetOf r ss) .items)) (described.valueOf (r .description))
+                          (λ v. agrees (cutOf (packetOf r ss) .items) (described.describedBy v)) st-sdci
+                          (λ z. ap (agrees (cutOf (packetOf r ss) .items)) described-is ∙ agrees-is),
+                      tt,
+                    ),
+                  ),
+                ),
+              ),
+            ),
+          ),
+        ),
+      )
 
   -- what was written is accepted
   pub accepted-back : refusedWith (testsFor (packetOf r ss)) ≡ 0
@@ -430,8 +464,9 @@ module _ (r : Record) (ss : Streams) (ty : Typed r) (fits : Fits r ss) where
   pub stream-back : (streamFor (packetOf r ss) 0 ≡ ss .s0) × (streamFor (packetOf r ss) 1 ≡ ss .s1) × (streamFor (packetOf r ss) 2 ≡ ss .s2) × (streamFor (packetOf r ss) 3 ≡ ss .s3)
   unfolding streamFor streamOf
   stream-back =
-      rw accepted-back
-      (value-stood (find name.str0 (cutOf (packetOf r ss) .items)) (ss .s0) st-str0,
-      value-stood (find name.str1 (cutOf (packetOf r ss) .items)) (ss .s1) st-str1,
-      value-stood (find name.str2 (cutOf (packetOf r ss) .items)) (ss .s2) st-str2,
-      value-stood (find name.str3 (cutOf (packetOf r ss) .items)) (ss .s3) st-str3)
+      rw accepted-back (
+        value-stood (find name.str0 (cutOf (packetOf r ss) .items)) (ss .s0) st-str0,
+        value-stood (find name.str1 (cutOf (packetOf r ss) .items)) (ss .s1) st-str1,
+        value-stood (find name.str2 (cutOf (packetOf r ss) .items)) (ss .s2) st-str2,
+        value-stood (find name.str3 (cutOf (packetOf r ss) .items)) (ss .s3) st-str3,
+      )
