@@ -35,13 +35,13 @@ use Rattle.mdi_check.specs.Refusals.{itemTests, testsFor}
 use Rattle.mdi.specs.Reading.{timeOf, recordOf, readFor, streamOf, streamFor}
 use Rattle.mdi.specs.declared.Answer.{Answer}
 use Rattle.mdi_write.specs.Packet.{Streams, four, packetOf}
-use Rattle.mdi_write.specs.Answers.{anyLong, badTime, tooLarge, agreed}
-use Rattle.mdi_write.proofs.Numbers.{Fits}
+use Rattle.mdi_write.specs.Answers.{anyLong, badTime, tooLarge, agreed, Fits}
 use Rattle.mdi_laws.specs.Ignored.{Plain}
+use Rattle.mdi_laws.specs.Typed.{Typed}
 use Rattle.mdi_laws.specs.WellFormed.{WellFormed}
 use Rattle.mdi_laws.proofs.Accepts.{rising, well}
 use Rattle.mdi_laws.proofs.Ignored.{place-left}
-use Rattle.mdi_laws.proofs.Back.{Typed, read-back, stream-back, said-most, agreed-each}
+use Rattle.mdi_laws.proofs.Back.{read-back, stream-back, said-most, agreed-each}
 
 abbrev isSome : Found → Bool
 isSome none = false
@@ -177,10 +177,11 @@ module _ (p : List ℕ) (b : Bytes p) (e : refusedWith (testsFor p) ≡ 0) where
       let c : readFor p .content ≡ recordOf (cutOf p .items) = ap (λ (a : Answer). a .content) read-is in
       let s = stream-back (recordOf (cutOf p .items)) (streamsIn (cutOf p .items)) typed fits-read in
       let q = streams-are in
-      rw (q, c) (
-        sym (ap (λ (x : Record). readFor (packetOf x (streamsIn (cutOf p .items)))) c) ∙ again,
-        s .0 ∙ sym (ap (λ (x : Streams). x .s0) q),
-        s .1 ∙ sym (ap (λ (x : Streams). x .s1) q),
-        s .2 ∙ sym (ap (λ (x : Streams). x .s2) q),
-        s .3 ∙ sym (ap (λ (x : Streams). x .s3) q),
+      let at : (k : ℕ) → streamFor (packetOf (readFor p .content) (four (streamFor p 0) (streamFor p 1) (streamFor p 2) (streamFor p 3))) k
+      ≡ streamFor (packetOf (recordOf (cutOf p .items)) (streamsIn (cutOf p .items))) k = λ k. ap₂ (λ (x : Record) (y : Streams). streamFor (packetOf x y) k) c q in (
+        ap (λ (y : Streams). readFor (packetOf (readFor p .content) y)) q ∙ again,
+        at 0 ∙ s .0 ∙ sym (ap (λ (x : Streams). x .s0) q),
+        at 1 ∙ s .1 ∙ sym (ap (λ (x : Streams). x .s1) q),
+        at 2 ∙ s .2 ∙ sym (ap (λ (x : Streams). x .s2) q),
+        at 3 ∙ s .3 ∙ sym (ap (λ (x : Streams). x .s3) q),
       )

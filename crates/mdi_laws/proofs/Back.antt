@@ -12,6 +12,7 @@ use Rattle.laws.specs.Big.{bytesOf, bigOf, numberAt}
 use Rattle.laws.specs.Limits.{longest}
 use Rattle.laws.specs.Pick.{pick}
 use Rattle.laws.specs.Refuse.{refusedWith, refusedAt}
+use Rattle.laws.specs.Written.{written}
 use Rattle.laws.proofs.Big.{big-back, bytes-length}
 use Rattle.laws.proofs.Flags.{both, or-false}
 use Rattle.laws.proofs.Refuse.{accepted}
@@ -28,6 +29,7 @@ use Rattle.description.proofs.Meaning as meaning
 use Rattle.description.proofs.Back as descriptions
 use Rattle.fac.specs.Channel as fast
 use Rattle.fac.proofs.Back as channel
+use Rattle.fac.proofs.Ways.{front}
 use Rattle.sdc.specs.Block as block
 use Rattle.sdc.proofs.Back as blocks
 use Rattle.record.specs.declared.Record.{Record}
@@ -42,20 +44,15 @@ use Rattle.mdi_check.specs.Conditions.{protocol, knownMode, onTime, served, msc
 use Rattle.mdi_check.specs.Refusals.{itemTests, testsFor}
 use Rattle.mdi.specs.Reading.{timeOf, recordOf, readFor, streamOf, streamFor}
 use Rattle.mdi_write.specs.Packet.{Streams, entry, opening, timeBytes, headRows, streamRows, table, packetOf}
-use Rattle.mdi_write.specs.Answers.{anyLong, badTime, tooLarge, saidOf, agreed, writeFor}
+use Rattle.mdi_write.specs.Answers.{anyLong, badTime, tooLarge, saidOf, agreed, writeNumber, writeFor, outFor, Fits}
 use Rattle.mdi_write.specs.Rows.{wireSize, sizeFor}
 use Rattle.mdi_write.proofs.Values.{few, value-size, size-is}
 use Rattle.mdi_write.proofs.Laying.{packet-length, not-long}
-use Rattle.mdi_write.proofs.Numbers.{Fits, Small, small-of}
+use Rattle.mdi_write.proofs.Numbers.{Small, small-of, fits-of}
 use Rattle.mdi_laws.specs.Ignored.{Plain}
+use Rattle.mdi_laws.specs.Typed.{Typed}
 use Rattle.mdi_laws.proofs.Ignored.{number-left, place-left}
 use Rattle.mdi_laws.proofs.Stood.{Stood, gone, held, Held, Gone, stood, value-stood, there-stood, size-stood, good-stood}
-
--- what the types of a record say of it: the sizes of its arrays, the bits of its count
-pub record Typed (r : Record) : Type 0 where
-  pub count : r .count < 2 ^ 32
-  pub body : length (r .sdc .body) ≡ 1024
-  pub slots : length (r .description .stream) ≡ 4
 
 module _ (r : Record) (ss : Streams) (ty : Typed r) (fits : Fits r ss) where
   small : Small r
@@ -470,3 +467,25 @@ module _ (r : Record) (ss : Streams) (ty : Typed r) (fits : Fits r ss) where
         value-stood (find name.str2 (cutOf (packetOf r ss) .items)) (ss .s2) st-str2,
         value-stood (find name.str3 (cutOf (packetOf r ss) .items)) (ss .s3) st-str3,
       )
+
+-- ---- B2 in the words of the calls: what `write` accepts and leaves in the output, `read` gives back
+module _ (r : Record) (ss : Streams) (out : List ℕ) (ty : Typed r) (e : writeFor r ss (length out) .number ≡ 0) where
+  accepts : refusedWith (Rattle.mdi_write.specs.Answers.writeTests r ss (length out)) ≡ 0
+  unfolding writeFor writeNumber
+  accepts = e
+
+  pub written-is : take (writeFor r ss (length out) .length) (outFor r ss out) ≡ packetOf r ss
+  unfolding writeFor outFor writeNumber
+  written-is = rw accepts (front out (packetOf r ss) (length (packetOf r ss)) refl)
+
+  pub read-write : readFor (take (writeFor r ss (length out) .length) (outFor r ss out)) ≡ record { number = 0; place = 0; content = r }
+  read-write = ap readFor written-is ∙ read-back r ss ty (fits-of r ss (length out) accepts .0)
+
+  pub stream-write : (streamFor (take (writeFor r ss (length out) .length) (outFor r ss out)) 0 ≡ ss .s0)
+      × (streamFor (take (writeFor r ss (length out) .length) (outFor r ss out)) 1 ≡ ss .s1)
+      × (streamFor (take (writeFor r ss (length out) .length) (outFor r ss out)) 2 ≡ ss .s2)
+      × (streamFor (take (writeFor r ss (length out) .length) (outFor r ss out)) 3 ≡ ss .s3)
+  stream-write =
+      let s = stream-back r ss ty (fits-of r ss (length out) accepts .0) in
+      let at : (k : ℕ) → streamFor (take (writeFor r ss (length out) .length) (outFor r ss out)) k ≡ streamFor (packetOf r ss) k = λ k. ap (λ (p : List ℕ). streamFor p k) written-is in
+      (at 0 ∙ s .0, at 1 ∙ s .1, at 2 ∙ s .2, at 3 ∙ s .3)

@@ -52,7 +52,7 @@ by-test (some i) n v false q e =
       there = refl;
       bits = ap bitsIn e;
       value = ap (λ (x : Found). valueIn x) e;
-      filled = λ z. eqb-false _ _ q (omega arith);
+      filled = λ z. eqb-false (8 * length v) 0 q (omega arith);
     })
   where
     valueIn : Found → List ℕ

@@ -20,7 +20,7 @@ use Rattle.sdc.specs.Block as block
 use Rattle.record.specs.declared.Record.{Record}
 use Rattle.record.specs.declared.Time.{Time}
 use Rattle.mdi_write.specs.Packet.{Streams, packetOf}
-use Rattle.mdi_write.specs.Answers.{anyLong, badTime, tooLarge, saidOf, agreed, writeTests, writeNumber, writeFor, outFor}
+use Rattle.mdi_write.specs.Answers.{anyLong, badTime, tooLarge, saidOf, agreed, writeTests, writeNumber, writeFor, outFor, Fits}
 use Rattle.mdi_write.specs.Rows.{sizeFor, Ready}
 use Rattle.mdi_write.proofs.Values.{few}
 use Rattle.mdi_write.proofs.Laying.{packet-length, not-long}
@@ -86,15 +86,7 @@ module _ (r : Record) (ss : Streams) (room : ℕ) (g : Bool)
               unfolding writeTests
               w-0 h = rw (long-is, g0, ← eo, o0, ← et, t0, ← eu, u0, ← ei, i0, agreed-is, b0, size, le-ltb _ _ h)
 
--- ---- what is accepted
-pub record Fits (r : Record) (ss : Streams) : Type 0 where
-  pub short : anyLong ss ≡ false
-  pub sdc : block.overLong (r .sdc) ≡ false
-  pub fields : tooLarge r ≡ false
-  pub served : fast.notServed (r .fac) ≡ false
-  pub formed : described.illFormed (r .fac .msc) (r .description) ≡ false
-  pub lengths : agreed (r .description) ss ≡ true
-
+-- ---- what is accepted fits
 pub fits-of : (r : Record) (ss : Streams) (room : ℕ) → refusedWith (writeTests r ss room) ≡ 0 → Fits r ss × (length (packetOf r ss) ≤ room)
 unfolding writeTests
 fits-of r ss room e =

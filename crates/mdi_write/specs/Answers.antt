@@ -1,6 +1,7 @@
 -- What the writer refuses and answers (01, "Numbers given back"). Assumes nothing.
 use Prim.Native.Nat.{ℕ, _+_}
-use mathlib.Core.Bool.{Bool, false, not, _||_, _&&_}
+use mathlib.Core.Bool.{Bool, true, false, not, _||_, _&&_}
+use mathlib.Core.Path.{_≡_}
 use mathlib.Core.List.{List, [], _∷_}
 use lib.Dec.{eqb, ltb}
 use lib.ListN.{length, getD}
@@ -68,3 +69,12 @@ writeFor r ss room =
 -- the output after it
 unfoldable pub outFor : Record → Streams → List ℕ → List ℕ
 outFor r ss out = pick (eqb (writeNumber r ss (length out)) 0) (written out 0 (packetOf r ss)) out
+
+-- a record and streams that are written wherever they have room
+pub record Fits (r : Record) (ss : Streams) : Type 0 where
+  pub short : anyLong ss ≡ false
+  pub sdc : block.overLong (r .sdc) ≡ false
+  pub fields : tooLarge r ≡ false
+  pub served : fast.notServed (r .fac) ≡ false
+  pub formed : described.illFormed (r .fac .msc) (r .description) ≡ false
+  pub lengths : agreed (r .description) ss ≡ true
