@@ -4,3 +4,5 @@ pub mod Unique
 pub mod UniqueFrame
 pub mod UniqueSteps
 pub mod UniqueStream
+pub mod RejectedReader
+pub mod UniqueMdi

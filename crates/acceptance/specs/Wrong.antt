@@ -7,12 +7,29 @@ use lib.ListN.{take}
 use Rattle.laws.specs.Written.{written}
 use Rattle.dispersal.specs.Dispersal as dispersal
 use Rattle.hand.specs.declared.Settings.{Settings}
+use Rattle.mdi.specs.declared.Answer.{Answer}
+use Rattle.mdi.specs.Reading.{readFor}
 use Rattle.packet.specs.Packet.{decode}
 use Rattle.sender.specs.declared.Framed.{Framed}
 use Rattle.sender.specs.declared.Loaded.{Loaded}
 use Rattle.sender.specs.declared.Sender.{Sender}
 use Rattle.sender.specs.Frame as frames
 use Rattle.sender.specs.Load as loads
+
+-- ---- reading an MDI packet
+abbrev pub Reader : Type 0
+Reader = List ℕ → Answer
+
+abbrev pub Reads : Reader → Type 0
+Reads f = (packet : List ℕ) → f packet ≡ readFor packet
+
+-- a reader that refuses everything
+abbrev pub RefusesAll : Reader → Type 0
+RefusesAll f = (packet : List ℕ) → f packet .number ≡ 0 → ⊥
+
+-- one fixed record for all packets
+abbrev pub OneRecord : Reader → Type 0
+OneRecord f = (x y : List ℕ) → f x .content ≡ f y .content
 
 -- ---- dispersal: input and output before it; number and output after it
 abbrev pub Disperser : Type 0
