@@ -6,7 +6,7 @@ use Rattle.clock.specs.Next.{elapsed, later, nextTests, nextFor}
 use Rattle.clock.specs.Stamps as stamps
 use Rattle.description.specs.Answers as descriptions
 use Rattle.description.specs.Bytes.{lengthBytes, streamBytes, valueOf, entityOf, lengthsOf, slotAt, describedBy}
-use Rattle.description.specs.Parts.{lengthsIn, usedBy, paddingOf, layoutTests, layoutFor}
+use Rattle.places.specs.Parts.{lengthsIn, usedBy, paddingOf, layoutTests, layoutFor}
 use Rattle.description.specs.WellFormed.{tooLarge, illFormed}
 use Rattle.dispersal.specs.Dispersal as dispersal
 use Rattle.hand.specs.Hand.{give, free, giveFirst, giveOne, spread, handOut, planFor, handFor}

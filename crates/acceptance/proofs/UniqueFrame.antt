@@ -10,10 +10,10 @@ use Rattle.copy.specs.Copy as copies
 use Rattle.description.specs.declared.Description.{Description}
 use Rattle.description.specs.declared.Described.{Described}
 use Rattle.description.specs.declared.Entity.{Entity}
-use Rattle.description.specs.declared.Places.{Places}
+use Rattle.places.specs.declared.Places.{Places}
 use Rattle.description.specs.declared.Written.{Written}
 use Rattle.description.specs.Answers as answers
-use Rattle.description.specs.Parts.{layoutFor}
+use Rattle.places.specs.Parts.{layoutFor}
 use Rattle.frames.specs.declared.Streams.{Streams}
 use Rattle.frames.specs.Frames as frames
 use Rattle.layout_text.specs.Text.{textOf}
@@ -39,7 +39,7 @@ pub write-entity : Settles (λ (i : ℕ × Description × ℕ × List ℕ) (o : 
     (o .0 ≡ answers.writeEntityFor (i .0) (i .1) (i .2) (i .3)) × (o .1 ≡ answers.entityOutputFor (i .0) (i .1) (i .2) (i .3)))
 write-entity = settled-both (λ i. answers.writeEntityFor (i .0) (i .1) (i .2) (i .3)) (λ i. answers.entityOutputFor (i .0) (i .1) (i .2) (i .3))
 
--- `description::layout`; an input is the capacity, the description and the MSC mode
+-- `places::layout`; an input is the capacity, the description and the MSC mode
 pub laid : Settles (λ (i : ℕ × Description × ℕ) (r : Places). r ≡ layoutFor (i .0) (i .1) (i .2))
 laid = settled (λ i. layoutFor (i .0) (i .1) (i .2))
 

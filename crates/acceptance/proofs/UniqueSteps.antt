@@ -12,7 +12,7 @@ use Rattle.moves.specs.Moves.{placed, pulled}
 use Rattle.description.specs.declared.Description.{Description}
 use Rattle.description.specs.Answers.{valueLength, handed}
 use Rattle.description.specs.Bytes.{describedBy}
-use Rattle.description.specs.Parts.{usedBy, badCapacity}
+use Rattle.places.specs.Parts.{usedBy, badCapacity}
 use Rattle.description.specs.WellFormed.{tooLarge, illFormed}
 use Rattle.queue.specs.declared.Queue.{Queue}
 use Rattle.queue.specs.Queue as queues
@@ -31,7 +31,7 @@ cleared = settled (λ i. placed (i .0) (i .1) (replicate (i .2) 0))
 pub moved : Settles (λ (i : List ℕ × ℕ × ℕ × ℕ) (o : List ℕ). o ≡ pulled (i .0) (i .1) (i .2) (i .3))
 moved = settled (λ i. pulled (i .0) (i .1) (i .2) (i .3))
 
--- `description::of_value`, `too_large`, `ill_formed`, `is_value_length`, `handed_number`, `used` and `is_bad_capacity`
+-- `description::of_value`, `too_large`, `ill_formed`, `is_value_length`, `handed_number`, and `places::used` and `is_bad_capacity`
 pub of-value : Settles (λ (v : List ℕ) (r : Description). r ≡ describedBy v)
 of-value = settled describedBy
 

@@ -9,8 +9,8 @@ use Rattle.clock.specs.Next.{nextFor}
 use Rattle.clock.specs.Stamps as stamps
 use Rattle.description.specs.AnnexC.{annexC}
 use Rattle.description.specs.Answers as descriptions
-use Rattle.description.specs.Parts.{layoutFor}
-use Rattle.description.specs.declared.Places.{Places}
+use Rattle.places.specs.Parts.{layoutFor}
+use Rattle.places.specs.declared.Places.{Places}
 use Rattle.dispersal.specs.Dispersal as dispersal
 use Rattle.hand.specs.Hand.{handFor}
 use Rattle.hand.specs.declared.Handed.{Handed}

@@ -39,7 +39,7 @@ pub(crate) fn read_entity(body: &[u8], one: &mut [u8], out: &mut [u8]) -> usize 
     if case::ends(s, body) {
         let got = description::read_entity(case::front(one, s.len), case::byte(body, 0));
         let at = answer::begin(out, got.number, 0, 12);
-        let at = answer::value(out, at, wide8(got.version));
+        let at = answer::value(out, at, got.version as u64);
         let d = got.description;
         return told(out, at, d);
     }

@@ -1,8 +1,8 @@
 // Calls 14 and 15: the layout of a frame, as values and as the program's text.
 use cases::answer;
 use cases::case;
-use description::Part;
-use description::Places;
+use places::Part;
+use places::Places;
 
 fn place(out: &mut [u8], at: usize, x: Part) -> usize {
     let next = answer::value(out, at, x.at as u64);
@@ -25,7 +25,7 @@ pub(crate) fn layout(body: &[u8], out: &mut [u8]) -> usize {
         return answer::none(out);
     }
     let capacity = fields::read64(body, 0) as usize;
-    let p = description::layout(
+    let p = places::layout(
         capacity,
         case_values::description_at(body, 8),
         case::byte(body, 8 + case_values::DESCRIPTION),

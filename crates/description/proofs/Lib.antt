@@ -2,9 +2,7 @@ pub mod Tests
 pub mod Pieces
 pub mod Ways
 pub mod Writing
-pub mod Placing
 pub mod Meaning
 pub mod Back
 pub mod RoundTrips
-pub mod Covers
 pub mod Examples

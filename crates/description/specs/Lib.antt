@@ -1,6 +1,4 @@
 pub mod Answers
 pub mod Bytes
-pub mod Parts
-pub mod Covering
 pub mod WellFormed
 pub mod AnnexC

@@ -16,9 +16,9 @@ use Rattle.copy.proofs.Pieces.{puts-then}
 use Rattle.description.specs.declared.Lengths.{Lengths}
 use Rattle.description.specs.declared.Description.{Description}
 use Rattle.description.specs.Answers.{handed}
-use Rattle.description.specs.Parts.{usedBy}
+use Rattle.places.specs.Parts.{usedBy}
 use Rattle.description.proofs.Tests.{four}
-use Rattle.description.proofs.Placing.{used-is}
+use Rattle.places.proofs.Placing.{used-is}
 use Rattle.description.proofs.Writing.{neither}
 use Rattle.frames.specs.Frames.{partsA, partsB, joined, frameOf, sizes, somePair, other, buildTests, buildNumber, buildFor, frameFor}
 use Rattle.frames.specs.Ready.{slot, sizeOf, allA, allB, Ready}

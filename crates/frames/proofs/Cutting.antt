@@ -15,12 +15,12 @@ use Rattle.laws.proofs.Refuse.{free}
 use Rattle.copy.specs.Copy.{nextFor, outputFor}
 use Rattle.copy.proofs.Pieces.{puts, puts-then}
 use Rattle.description.specs.declared.Description.{Description}
-use Rattle.description.specs.declared.Part.{Part}
-use Rattle.description.specs.declared.Places.{Places}
+use Rattle.places.specs.declared.Part.{Part}
+use Rattle.places.specs.declared.Places.{Places}
 use Rattle.description.specs.Bytes.{noStream}
 use Rattle.description.specs.Answers.{handed}
-use Rattle.description.specs.Parts.{usedBy, partsOf, badCapacity, layoutTests, noPart, layoutFor}
-use Rattle.description.proofs.Placing.{parts-are}
+use Rattle.places.specs.Parts.{usedBy, partsOf, badCapacity, layoutTests, noPart, layoutFor}
+use Rattle.places.proofs.Placing.{parts-are}
 use Rattle.description.proofs.Writing.{neither}
 use Rattle.frames.specs.Frames.{bytesIn, streamIn, sizes, somePair, less, cutTests, cutNumber, cutFor, streamFor}
 use Rattle.frames.specs.Ready.{slot, sizeOf, allA, allB}

@@ -14,10 +14,10 @@ use Rattle.laws.specs.Written.{written}
 use Rattle.laws.proofs.Refuse.{free}
 use Rattle.description.specs.declared.Lengths.{Lengths}
 use Rattle.description.specs.declared.Description.{Description}
-use Rattle.description.specs.declared.Part.{Part}
+use Rattle.places.specs.declared.Part.{Part}
 use Rattle.description.specs.Answers.{handed}
-use Rattle.description.specs.Parts.{sum, lengthsIn, usedBy, partsFrom, partsOf, badCapacity, noPart}
-use Rattle.description.proofs.Placing.{lengths-eight}
+use Rattle.places.specs.Parts.{sum, lengthsIn, usedBy, partsFrom, partsOf, badCapacity, noPart}
+use Rattle.places.proofs.Placing.{lengths-eight}
 use Rattle.description.proofs.Tests.{four}
 use Rattle.description.proofs.Writing.{neither}
 use Rattle.frames.specs.Frames.{eachOf, partsA, partsB, joined, frameOf, bytesIn, streamIn, anyLong, somePair, less, buildTests, buildNumber, buildFor, frameFor, cutTests, cutNumber, cutFor, streamFor}

@@ -12,7 +12,7 @@ use Rattle.description.specs.declared.Lengths.{Lengths}
 use Rattle.description.specs.declared.Description.{Description}
 use Rattle.description.specs.Bytes.{noStream}
 use Rattle.description.specs.Answers.{handed}
-use Rattle.description.specs.Parts.{usedBy, badCapacity}
+use Rattle.places.specs.Parts.{usedBy, badCapacity}
 use Rattle.description.proofs.Tests.{four}
 use Rattle.description.proofs.Writing.{handed-stops, handed-goes}
 use Rattle.frames.specs.Frames.{sizes, anyLong, somePair, other, less, buildTests, cutTests}

@@ -11,10 +11,10 @@ use Rattle.laws.specs.Refuse.{Test, test, refusedWith}
 use Rattle.laws.specs.Written.{written}
 use Rattle.description.specs.declared.Lengths.{Lengths}
 use Rattle.description.specs.declared.Description.{Description}
-use Rattle.description.specs.declared.Part.{Part}
+use Rattle.places.specs.declared.Part.{Part}
 use Rattle.description.specs.declared.Written.{Written}
 use Rattle.description.specs.Answers.{handed, written-or}
-use Rattle.description.specs.Parts.{usedBy, partsOf, badCapacity, noPart}
+use Rattle.places.specs.Parts.{usedBy, partsOf, badCapacity, noPart}
 use Rattle.frames.specs.declared.Streams.{Streams}
 
 -- a part of each stream, by the length of its part A

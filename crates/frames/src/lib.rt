@@ -1,8 +1,8 @@
 // The multiplex frame (01, "The description and the frame it cuts"): built from its streams, and cut into them.
 use description::Description;
 use description::Lengths;
-use description::Part;
 use description::Written;
+use places::Part;
 ghost use mathlib.Core.Path.{_≡_};
 ghost use mathlib.Core.List.{[], _∷_, _++_};
 ghost use Prim.Native.Nat.{_+_, _-_, _≤_};
@@ -99,7 +99,7 @@ fn build_number(
     ensures { λ r. ⌜ r ≡ refusedWith (buildTests capacity d mode (n0 ∷ n1 ∷ n2 ∷ n3 ∷ []) room) ⌝ }
 {
     let long = (65528 < n0) | ((65528 < n1) | ((65528 < n2) | (65528 < n3)));
-    if description::is_bad_capacity(capacity) | long {
+    if places::is_bad_capacity(capacity) | long {
         return 1;
     }
     let number = description::handed_number(false, d, mode);
@@ -109,7 +109,7 @@ fn build_number(
     if other_sizes(d, n0, n1, n2, n3) {
         return 11;
     }
-    if capacity < description::used(d) {
+    if capacity < places::used(d) {
         return 12;
     }
     if room < capacity {
@@ -153,14 +153,14 @@ fn cut_number(
 ) -> u32
     ensures { λ r. ⌜ r ≡ refusedWith (cutTests capacity d mode size (n0 ∷ n1 ∷ n2 ∷ n3 ∷ [])) ⌝ }
 {
-    if description::is_bad_capacity(capacity) | !(size == capacity) {
+    if places::is_bad_capacity(capacity) | !(size == capacity) {
         return 1;
     }
     let number = description::handed_number(false, d, mode);
     if number != 0 {
         return number;
     }
-    if capacity < description::used(d) {
+    if capacity < places::used(d) {
         return 12;
     }
     if less_sizes(d, n0, n1, n2, n3) {
@@ -263,7 +263,7 @@ pub fn cut(
             len: [0, 0, 0, 0],
         };
     }
-    let p = description::layout(capacity, d, mode);
+    let p = places::layout(capacity, d, mode);
     take_out(p.part[0], p.part[4], frame, o0);
     take_out(p.part[1], p.part[5], frame, o1);
     take_out(p.part[2], p.part[6], frame, o2);

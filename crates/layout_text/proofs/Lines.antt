@@ -10,8 +10,8 @@ use lib.ListN.{length, getD, take, drop, length-drop}
 use lib.Seq.{getD-drop}
 use Rattle.copy.specs.Copy.{Puts}
 use Rattle.copy.proofs.Pieces.{puts-none, puts-then, puts-same}
-use Rattle.description.specs.declared.Part.{Part}
-use Rattle.description.specs.Parts.{noPart}
+use Rattle.places.specs.declared.Part.{Part}
+use Rattle.places.specs.Parts.{noPart}
 use Rattle.layout_text.specs.Text.{decimal, placeText, lineOf, partLines}
 
 -- the line of a part with no byte, and of one with some

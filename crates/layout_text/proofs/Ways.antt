@@ -16,11 +16,11 @@ use Rattle.io.specs.Counts.{Counts}
 use Rattle.copy.specs.Copy.{Puts}
 use Rattle.copy.proofs.Pieces.{puts-same}
 use Rattle.description.specs.declared.Description.{Description}
-use Rattle.description.specs.declared.Places.{Places}
+use Rattle.places.specs.declared.Places.{Places}
 use Rattle.description.specs.Bytes.{describedBy}
 use Rattle.description.specs.WellFormed.{illFormed}
 use Rattle.description.specs.Answers.{valueLength, handed}
-use Rattle.description.specs.Parts.{usedBy, partsOf, paddingOf, badCapacity, layoutTests, layoutFor}
+use Rattle.places.specs.Parts.{usedBy, partsOf, paddingOf, badCapacity, layoutTests, layoutFor}
 use Rattle.description.proofs.RoundTrips.{small}
 use Rattle.layout_text.specs.Text.{ascii, numberLine, linesOf, capacityIn, describedIn, testsFor, numberFor, textOf}
 

@@ -11,11 +11,11 @@ use Rattle.laws.specs.Limits.{longest}
 use Rattle.laws.specs.Pick.{pick}
 use Rattle.laws.specs.Refuse.{Test, test, refusedWith}
 use Rattle.description.specs.declared.Description.{Description}
-use Rattle.description.specs.declared.Part.{Part}
+use Rattle.places.specs.declared.Part.{Part}
 use Rattle.description.specs.Bytes.{describedBy}
 use Rattle.description.specs.WellFormed.{illFormed}
 use Rattle.description.specs.Answers.{valueLength}
-use Rattle.description.specs.Parts.{usedBy, partsOf, paddingOf, badCapacity}
+use Rattle.places.specs.Parts.{usedBy, partsOf, paddingOf, badCapacity}
 
 -- a text as bytes
 abbrev pub ascii : Text.String → List ℕ

@@ -1,6 +1,6 @@
 // What the program `layout` prints (01, "The description and the frame it cuts"): the layout of a frame, or its refusal, as text.
-use description::Part;
-use description::Places;
+use places::Part;
+use places::Places;
 ghost use mathlib.Core.Path.{_≡_};
 ghost use mathlib.Core.List.{_++_};
 ghost use Prim.Native.Nat.{_+_, _≤_};
@@ -125,7 +125,7 @@ fn number_of(input: &[u8]) -> u32
         return 1;
     }
     let capacity = capacity_in(input);
-    if description::is_bad_capacity(capacity) {
+    if places::is_bad_capacity(capacity) {
         return 1;
     }
     let value = value_in(input);
@@ -136,7 +136,7 @@ fn number_of(input: &[u8]) -> u32
     if description::ill_formed(d, 0) {
         return 10;
     }
-    if capacity < description::used(d) {
+    if capacity < places::used(d) {
         return 12;
     }
     0
@@ -154,6 +154,6 @@ pub fn text(input: &[u8], out: &mut [u8; 1024]) -> usize
     }
     let capacity = capacity_in(input);
     let d = description::of_value(value_in(input));
-    let p = description::layout(capacity, d, 0);
+    let p = places::layout(capacity, d, 0);
     put_layout(capacity, p, out)
 }

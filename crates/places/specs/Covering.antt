@@ -7,8 +7,8 @@ use mathlib.Core.Path.{_≡_}
 use lib.Dec.{leb, ltb}
 use lib.ListN.{length, getD}
 use Rattle.laws.specs.Pick.{pick}
-use Rattle.description.specs.declared.Part.{Part}
-use Rattle.description.specs.Parts.{sum, noPart}
+use Rattle.places.specs.declared.Part.{Part}
+use Rattle.places.specs.Parts.{sum, noPart}
 
 -- a position lies in a part
 abbrev pub lies : ℕ → Part → Bool

@@ -1,8 +1,8 @@
--- `description::layout` meets its contract. Assumes nothing.
+-- `places::layout` meets its contract. Assumes nothing.
 use native.Mathlib.Omega.{arith}
-use Rattle.description.proofs.Placing.{layout-refused, room, layout-done}
-use Rattle.description.proofs.layout.Statement.{statement}
-use Rattle.description.proofs.layout.Tie as tie
+use Rattle.places.proofs.Placing.{layout-refused, room, layout-done}
+use Rattle.places.proofs.layout.Statement.{statement}
+use Rattle.places.proofs.layout.Tie as tie
 
 layout-number-requires : tie.Need-layout-number-requires
 layout-number-requires c κs = tt

@@ -11,15 +11,15 @@ use lib.ListN.{length, getD, replicate}
 use Rattle.laws.specs.Pick.{pick}
 use Rattle.laws.specs.Refuse.{test, refusedWith}
 use Rattle.laws.proofs.Refuse.{free}
 use Rattle.description.specs.declared.Lengths.{Lengths}
 use Rattle.description.specs.declared.Description.{Description}
-use Rattle.description.specs.declared.Part.{Part}
-use Rattle.description.specs.declared.Places.{Places}
+use Rattle.places.specs.declared.Part.{Part}
+use Rattle.places.specs.declared.Places.{Places}
 use Rattle.description.specs.Bytes.{noStream}
 use Rattle.description.specs.Answers.{handed}
-use Rattle.description.specs.Parts.{lengthsIn, usedBy, partsFrom, partsOf, paddingOf, badCapacity, layoutTests, noPart, layoutFor}
+use Rattle.places.specs.Parts.{lengthsIn, usedBy, partsFrom, partsOf, paddingOf, badCapacity, layoutTests, noPart, layoutFor}
 use Rattle.description.proofs.Tests.{four}
 use Rattle.description.proofs.Writing.{handed-stops, handed-goes}
 
 -- the eight lengths
 abbrev eight : List Lengths → List ℕ

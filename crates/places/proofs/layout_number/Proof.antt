@@ -1,7 +1,7 @@
--- `description::layout_number` meets its contract. Assumes nothing.
-use Rattle.description.proofs.Placing.{laying}
-use Rattle.description.proofs.layout_number.Statement.{statement}
-use Rattle.description.proofs.layout_number.Tie as tie
+-- `places::layout_number` meets its contract. Assumes nothing.
+use Rattle.places.proofs.Placing.{laying}
+use Rattle.places.proofs.layout_number.Statement.{statement}
+use Rattle.places.proofs.layout_number.Tie as tie
 
 is-bad-capacity-requires : tie.Need-is-bad-capacity-requires
 is-bad-capacity-requires c κs = tt

@@ -7,10 +7,10 @@ use lib.Dec.{eqb, ltb}
 use lib.ListN.{replicate}
 use Rattle.laws.specs.Pick.{pick}
 use Rattle.laws.specs.Refuse.{Test, test, refusedWith}
 use Rattle.description.specs.declared.Description.{Description}
-use Rattle.description.specs.declared.Part.{Part}
-use Rattle.description.specs.declared.Places.{Places}
+use Rattle.places.specs.declared.Part.{Part}
+use Rattle.places.specs.declared.Places.{Places}
 use Rattle.description.specs.Answers.{handed}
 
 abbrev pub sum : List ℕ → ℕ
 sum [] = 0

@@ -12,13 +12,13 @@ use lib.Dec.{eqb}
 use lib.ListN.{length, getD, replicate}
 use Rattle.laws.specs.Pick.{pick}
 use Rattle.laws.specs.Refuse.{refusedWith}
 use Rattle.description.specs.declared.Description.{Description}
-use Rattle.description.specs.declared.Part.{Part}
-use Rattle.description.specs.declared.Places.{Places}
-use Rattle.description.specs.Covering.{lies, covered, InOrder, allOf, Covers}
-use Rattle.description.specs.Parts.{sum, lengthsIn, usedBy, partsFrom, partsOf, paddingOf, layoutTests, noPart, layoutFor}
+use Rattle.places.specs.declared.Part.{Part}
+use Rattle.places.specs.declared.Places.{Places}
+use Rattle.places.specs.Covering.{lies, covered, InOrder, allOf, Covers}
+use Rattle.places.specs.Parts.{sum, lengthsIn, usedBy, partsFrom, partsOf, paddingOf, layoutTests, noPart, layoutFor}
 use Rattle.description.proofs.Meaning.{within}
-use Rattle.description.proofs.Placing.{room}
+use Rattle.places.proofs.Placing.{room}
 
 -- where a position lies
 lies-in : (p : ℕ) (x : Part) → x .at ≤ p → p < x .at + x .len → lies p x ≡ true
