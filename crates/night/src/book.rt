@@ -43,8 +43,7 @@ impl Book {
             std::num::wrapping_add_usize(k, 1),
             b" delivered: waited ",
         );
-        text::phrase(b"", wait, b" frames, promised at most ");
-        text::phrase(b"", bound[at], b"\n");
+        text::wait(wait, bound[at]);
         let mut b = self;
         if (0 < bound[at]) & (bound[at] < wait) {
             b.late = std::num::wrapping_add_usize(b.late, 1);
@@ -57,9 +56,12 @@ impl Book {
     }
 
     pub(crate) fn tell(self, delivered: usize) {
+        if delivered == 0 {
+            text::say(b"news pages: none delivered\n");
+            return;
+        }
         text::phrase(b"news pages: ", delivered, b" delivered, ");
         text::phrase(b"", self.late, b" late, longest wait ");
-        text::phrase(b"", self.longest, b" frames, promised at most ");
-        text::phrase(b"", self.promise, b"\n");
+        text::wait(self.longest, self.promise);
     }
 }

@@ -5,6 +5,7 @@ mod plan;
 mod run;
 mod table;
 mod text;
+mod wish;
 
 // The bytes that all units are cut from.
 fn make(bytes: &mut [u8]) {
@@ -22,8 +23,12 @@ fn main() {
     let mut store = [0u8; 12288];
     let mut buffer = [0u8; 16384];
     make(&mut bytes);
-    let w = plan::usual();
-    table::head(w);
-    let r = run::play(w, &mut store, &mut buffer, &bytes);
-    table::end(r);
+    let asked = wish::arguments();
+    let v = asked.v;
+    let w = plan::of(v);
+    if asked.whole && wish::is_fit(w, &mut store, &bytes) {
+        table::head(w);
+        let r = run::play(w, &mut store, &mut buffer, &bytes);
+        table::end(r);
+    }
 }

@@ -18,26 +18,41 @@ pub(crate) struct Plan {
     pub(crate) frames: usize,
 }
 
-pub(crate) fn usual() -> Plan {
-    let share = Three { a: 4, b: 5, c: 1 };
-    let ceiling = Three { a: 10, b: 12, c: 3 };
+// The numbers of a plan, as the arguments name them.
+pub(crate) const NUMBERS: usize = 14;
+
+pub(crate) fn usual() -> [usize; NUMBERS] {
+    [97, 12, 4, 5, 1, 10, 12, 3, 1800, 1300, 150, 5, 12, 80]
+}
+
+pub(crate) fn of(v: [usize; NUMBERS]) -> Plan {
+    let share = Three {
+        a: v[2],
+        b: v[3],
+        c: v[4],
+    };
+    let ceiling = Three {
+        a: v[5],
+        b: v[6],
+        c: v[7],
+    };
     let settings = Settings {
-        p: 97,
-        n: 12,
+        p: v[0],
+        n: v[1],
         share,
         ceiling,
     };
     let size = Three {
-        a: 1800,
-        b: 1300,
-        c: 150,
+        a: v[8],
+        b: v[9],
+        c: v[10],
     };
     Plan {
         settings,
         size,
-        every: 4,
-        files: 12,
-        frames: 80,
+        every: v[11],
+        files: v[12],
+        frames: v[13],
     }
 }
 
@@ -77,33 +92,50 @@ pub(crate) fn pick(t: Three, id: usize) -> usize {
     }
 }
 
-// Units of a queue that become due before a frame, counted from 0. The job that sends the map files starts at two o'clock by the
-// wall clock, and so it starts twice.
-pub(crate) fn due(w: Plan, id: usize, frame: usize) -> usize {
+// It is two o'clock by the wall clock when a frame, counted from 0, begins.
+pub(crate) fn is_two(w: Plan, frame: usize) -> bool {
     let h = hour(w);
+    (frame == h) | (frame == std::num::wrapping_add_usize(h, h))
+}
+
+// Units of a queue that become due before a frame. The job that loads the map files starts at two o'clock, and so it starts twice.
+pub(crate) fn due(w: Plan, id: usize, frame: usize) -> usize {
     match id {
         0 => is_round(frame, w.every) as usize,
-        1 => {
-            if (frame == h) | (frame == std::num::wrapping_add_usize(h, h)) {
-                w.files
-            } else {
-                0
-            }
-        }
+        1 => if is_two(w, frame) { w.files } else { 0 },
         _ => is_round(frame, 6) as usize,
     }
 }
 
-// n bytes of s from a position on, or none where it has fewer.
-pub(crate) fn part(s: &[u8], at: usize, n: usize) -> &[u8] {
+// The bytes of s from a position on; none past its end.
+pub(crate) fn behind(s: &[u8], at: usize) -> &[u8] {
     if s.len() < at {
         return &s[0..0];
     }
-    let rest = &s[at..];
+    &s[at..]
+}
+
+// n bytes of s from a position on, or none where it has fewer.
+pub(crate) fn part(s: &[u8], at: usize, n: usize) -> &[u8] {
+    let rest = behind(s, at);
     if rest.len() < n {
         return &s[0..0];
     }
     &rest[0..n]
+}
+
+pub(crate) fn same(a: &[u8], b: &[u8]) -> bool {
+    if a.len() != b.len() {
+        return false;
+    }
+    let mut i = 0;
+    while i < a.len() {
+        if a[i] != b[i] {
+            return false;
+        }
+        i += 1;
+    }
+    true
 }
 
 // Unit k of a queue, out of the bytes that all are cut from: the map files are the same ones again in the second start.

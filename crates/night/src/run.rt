@@ -135,20 +135,6 @@ fn outcome(a: Answer) -> Heard {
     }
 }
 
-fn same(a: &[u8], b: &[u8]) -> bool {
-    if a.len() != b.len() {
-        return false;
-    }
-    let mut i = 0;
-    while i < a.len() {
-        if a[i] != b[i] {
-            return false;
-        }
-        i += 1;
-    }
-    true
-}
-
 // A unit came out of the receiver.
 fn came(w: Plan, r: Run, h: Heard, buffer: &[u8], bytes: &[u8]) -> Run {
     let at = h.id % 3;
@@ -156,7 +142,7 @@ fn came(w: Plan, r: Run, h: Heard, buffer: &[u8], bytes: &[u8]) -> Run {
     let k = next.delivered[at];
     next.delivered[at] = plus(k, 1);
     let unit = plan::unit(w, bytes, at, k);
-    if !same(plan::part(buffer, at * 4096, h.length), unit) {
+    if !plan::same(plan::part(buffer, at * 4096, h.length), unit) {
         next.changed = plus(r.changed, 1);
     }
     if at == plan::NEWS {
@@ -231,6 +217,7 @@ fn load_queues(w: Plan, r: Run, store: &mut [u8], bytes: &[u8]) -> Run {
 }
 
 fn turn(w: Plan, r: Run, store: &mut [u8], buffer: &mut [u8], bytes: &[u8]) -> Run {
+    table::start(w, r.frame);
     let r = load_queues(w, r, store, bytes);
     let r = frame(w, r, store, buffer, bytes);
     let mut next = table::show(w, r);

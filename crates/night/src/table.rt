@@ -26,16 +26,32 @@ pub(crate) fn stamp(w: Plan, frame: usize) {
         return;
     }
     match frame / h {
-        0 => text::say(b"  1 :"),
+        0 => text::say(b"   1:"),
         1 => text::say(b"  2A:"),
         2 => text::say(b"  2B:"),
-        _ => text::say(b"  3 :"),
+        _ => text::say(b"   3:"),
     }
     if m < 10 {
         text::say(b"0");
     }
     text::number(m);
     text::say(b"  ");
+}
+
+// The job's start, where it is two o'clock.
+pub(crate) fn start(w: Plan, frame: usize) {
+    if plan::is_two(w, frame) {
+        stamp(w, frame);
+        if frame == plan::hour(w) {
+            text::phrase(b"two o'clock: the job starts, ", w.files, b" map files\n");
+        } else {
+            text::phrase(
+                b"two o'clock again: the job starts again, the same ",
+                w.files,
+                b" map files\n",
+            );
+        }
+    }
 }
 
 fn four(x: [usize; 4]) {
@@ -96,8 +112,9 @@ pub(crate) fn end(r: Run) {
     let delivered = r.delivered;
     let due = r.due;
     let book = r.book;
-    text::phrase(b"\nmap files: ", loaded[1], b" loaded, ");
-    text::phrase(b"", due[1], b" not yet; ");
+    text::phrase(b"\nmap files: ", delivered[1], b" delivered, ");
+    text::phrase(b"", loaded[1], b" loaded, ");
+    text::phrase(b"", due[1], b" still to load; ");
     text::phrase(b"", r.no_room, b" times no room (15)\n");
     text::phrase(b"units that came back changed: ", r.changed, b"\n");
     book.tell(delivered[0]);

@@ -34,3 +34,23 @@ pub(crate) fn phrase(before: &[u8], n: usize, after: &[u8]) {
     number(n);
     say(after);
 }
+
+// A number of frames.
+pub(crate) fn frames(n: usize) {
+    number(n);
+    if n == 1 {
+        say(b" frame");
+    } else {
+        say(b" frames");
+    }
+}
+
+// How long a page waited, and how long it may: a share of 0 promises nothing.
+pub(crate) fn wait(n: usize, bound: usize) {
+    frames(n);
+    if bound == 0 {
+        say(b", nothing promised (share 0)\n");
+    } else {
+        phrase(b", promised at most ", bound, b"\n");
+    }
+}
