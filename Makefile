@@ -1,4 +1,4 @@
-# make demo    the main job, on a worked example
+# make demo    the main job: a frame cut, and the night with two two-o'clocks; make demo NIGHT="files=30 share0=2" changes it
 # make test    the gate: proofs, must-fail edits, programs, and a fresh set of cases compared with the second program
 #              make test SEED=17 COUNT=5000 repeats a set, or makes a larger one
 # make bench   instructions per call against plain C
@@ -9,6 +9,7 @@ COUNT = 3000
 LIMIT = 1.10
 PREFIX = /usr/local
 DESTDIR =
+NIGHT =
 
 .PHONY: test demo bench install cases
 
@@ -16,7 +17,7 @@ test:
 	@sh scripts/test.sh "$(COUNT)" "$(SEED)"
 
 demo:
-	@sh scripts/demo.sh
+	@sh scripts/demo.sh $(NIGHT)
 
 bench:
 	@sh bench/count.sh "$(LIMIT)"
