@@ -22,7 +22,7 @@ pub(crate) struct Plan {
 pub(crate) const NUMBERS: usize = 14;
 
 pub(crate) fn usual() -> [usize; NUMBERS] {
-    [97, 12, 4, 5, 1, 10, 12, 3, 1800, 1300, 150, 5, 12, 80]
+    [97, 12, 4, 5, 1, 10, 12, 3, 1800, 1300, 150, 5, 16, 80]
 }
 
 pub(crate) fn of(v: [usize; NUMBERS]) -> Plan {

@@ -8,6 +8,9 @@ use crate::text;
 // The lines of a night, about.
 const LINES: usize = 20;
 
+// The characters of a bar; rounding adds three at most.
+const BAR: usize = 18;
+
 // Minutes of an hour by the wall clock.
 fn minute(w: Plan, frame: usize) -> usize {
     let h = plan::hour(w);
@@ -55,18 +58,24 @@ pub(crate) fn start(w: Plan, frame: usize) {
 }
 
 fn four(x: [usize; 4]) {
-    text::column(x[0], 5);
-    text::column(x[1], 5);
-    text::column(x[2], 5);
-    text::column(x[3], 5);
+    text::column(x[0], 6);
+    text::column(x[1], 6);
+    text::column(x[2], 6);
+    text::column(x[3], 6);
 }
 
-fn bar(x: [usize; 4]) {
+// The packets of a frame that a character of the bar stands for, so that a line fits on a screen.
+fn grain(w: Plan) -> usize {
+    plan::over(w.settings.n, BAR)
+}
+
+fn bar(w: Plan, x: [usize; 4]) {
+    let g = grain(w);
     text::say(b"   ");
-    text::repeat(b"0", x[0]);
-    text::repeat(b"1", x[1]);
-    text::repeat(b"2", x[2]);
-    text::repeat(b".", x[3]);
+    text::repeat(b"0", plan::over(x[0], g));
+    text::repeat(b"1", plan::over(x[1], g));
+    text::repeat(b"2", plan::over(x[2], g));
+    text::repeat(b".", plan::over(x[3], g));
     text::say(b"\n");
 }
 
@@ -80,7 +89,7 @@ fn line(w: Plan, r: Run) {
     text::column(run::waiting(w, s, 1), 5);
     text::column(run::waiting(w, s, 2), 5);
     let last = r.last;
-    bar(last);
+    bar(w, last);
 }
 
 // After a frame: a line where one is due, and the sums begin anew.
@@ -103,8 +112,15 @@ pub(crate) fn head(w: Plan) {
         w.files,
         b" map files starts at two o'clock, and so it starts twice.\n",
     );
-    text::say(b"\n             packets sent of queue    packets waiting   the last frame,\n");
-    text::say(b"frame  time      0    1    2 fill       0    1    2   packet by packet\n");
+    if 1 < grain(w) {
+        text::phrase(
+            b"A character of the bar stands for up to ",
+            grain(w),
+            b" packets.\n",
+        );
+    }
+    text::say(b"\n                 packets sent of queue  packets waiting   the last frame,\n");
+    text::say(b"frame  time        0     1     2  fill      0    1    2   packet by packet\n");
 }
 
 pub(crate) fn end(r: Run) {
@@ -114,8 +130,12 @@ pub(crate) fn end(r: Run) {
     let book = r.book;
     text::phrase(b"\nmap files: ", delivered[1], b" delivered, ");
     text::phrase(b"", loaded[1], b" loaded, ");
-    text::phrase(b"", due[1], b" still to load; ");
-    text::phrase(b"", r.no_room, b" times no room (15)\n");
+    text::phrase(b"", due[1], b" still to load\n");
+    text::phrase(
+        b"units refused for want of room (15) and offered again: ",
+        r.no_room,
+        b"\n",
+    );
     text::phrase(b"units that came back changed: ", r.changed, b"\n");
     book.tell(delivered[0]);
 }

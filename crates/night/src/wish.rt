@@ -50,10 +50,10 @@ fn sign(s: &[u8]) -> usize {
     s.len()
 }
 
-// The word stands in the list at a position, and a space behind it.
+// The word stands in the list at a position, and behind it an equals sign, which no name has.
 fn is_at(list: &[u8], at: usize, word: &[u8]) -> bool {
     let end = std::num::wrapping_add_usize(at, word.len());
-    plan::same(plan::part(list, at, word.len()), word) & plan::same(plan::part(list, end, 1), b" ")
+    plan::same(plan::part(list, at, word.len()), word) & plan::same(plan::part(list, end, 1), b"=")
 }
 
 // The place of a name in the list of names, nine bytes each, or one that is past them.
@@ -70,7 +70,7 @@ fn slot(list: &[u8], name: &[u8]) -> usize {
 
 fn place(name: &[u8]) -> usize {
     slot(
-        b"p        n        share0   share1   share2   ceiling0 ceiling1 ceiling2 news     map      station  every    files    frames   ",
+        b"p========n========share0===share1===share2===ceiling0=ceiling1=ceiling2=news=====map======station==every====files====frames===",
         name,
     )
 }
@@ -85,7 +85,7 @@ fn usage() {
         b"  news, map, station               bytes of a unit of its queue  1800, 1300, 150\n",
     );
     text::say(b"  every      frames from one news page to the next               5\n");
-    text::say(b"  files      map files of the job                                12\n");
+    text::say(b"  files      map files of the job                                16\n");
     text::say(b"  frames     frames of the night, a quarter of them an hour      80\n");
 }
 
