@@ -58,7 +58,7 @@ static uint32_t receive_rattle(size_t p, const uint8_t *s) {
 #define RECEIVE_C(p, s) plain_receive(&link, p, buffer, sizeof buffer, s, 130, &received)
 
 static void fill_stream(void) {
-    for (size_t i = 0; i < sizeof store; i++) store[i] = (uint8_t)(i * 57 + 3);
+    for (size_t i = 0; i < sizeof store; i += 3) store[i] = (uint8_t)(i * 57 + 3);
     for (size_t i = 0; i < sizeof unit; i++) unit[i] = (uint8_t)(i * 91 + 7);
     for (int k = 0; k < 3; k++) { /* units of 500 bytes, as news pages are: 4,000 bytes and 32 packets a queue */
         busy.q[k].count = 8;
@@ -112,8 +112,16 @@ static uint8_t ordered[65528], drawn[65528], shared[65528];
 static void put_name(uint8_t *s, uint32_t name) {
     for (int i = 0; i < 4; i++) s[i] = (uint8_t)(name >> 8 * (3 - i));
 }
+static void fill_hostile(void) {
+    uint32_t x = 2463534242;
+    for (uint32_t i = 0; i < 8191; i++) {
+        put_name(ordered + 8 * i, i);
+        put_name(shared + 8 * i, i << 19);
+        put_name(drawn + 8 * i, x);
+        x ^= x << 13, x ^= x >> 17, x ^= x << 5; /* of full period: no name comes twice */
+    }
+}
 static void fill_mdi(void) {
-    uint32_t x = 12345;
     fac[8] = plain_crc8(fac, 8);
     sdc[0] = 5;
     for (int i = 1; i < 101; i++) sdc[i] = (uint8_t)(i * 3);
@@ -123,29 +131,23 @@ static void fill_mdi(void) {
     mdi_len = 16 + 12 + 17 + 111 + 15 + 9 + 1008 + 208 + 16;
     memcpy(mdi, out, mdi_len);
     memset(out, 0, sizeof out);
-    for (uint32_t i = 0; i < 8191; i++) {
-        put_name(ordered + 8 * i, i);
-        put_name(shared + 8 * i, i << 19);
-        put_name(drawn + 8 * i, x);
-        x = x * 1664525 + 1013904223; /* of full period: no name comes twice */
-    }
 }
 
 /* One line a row: its name, how many turns are enough to count it, what is done before each call and is not counted, the proved code, and
    the plain C that it is compared with. A row `X_state` is call X refused by its first test: the cost of handing the state over and back. */
 #define CALLS(X) \
-    X(crc8, 20, , meter_crc8(buf, sizeof buf), plain_crc8(buf, sizeof buf)) \
-    X(crc16, 20, , meter_crc16(buf, sizeof buf), plain_crc16(buf, sizeof buf)) \
-    X(disperse, 20, , meter_disperse(buf, sizeof buf, out, sizeof buf), plain_disperse(buf, sizeof buf, out, sizeof buf)) \
-    X(packet_check, 20, , meter_check(255, packet, sizeof packet), plain_check(255, packet, sizeof packet)) \
-    X(frame, 3, state = busy, frame_rattle(&settings), FRAME_C(&settings)) \
-    X(frame_state, 20, state = busy, frame_rattle(&wrong), FRAME_C(&wrong)) \
-    X(load, 20, state = half, load_rattle(&settings), LOAD_C(&settings)) \
-    X(load_state, 20, state = half, load_rattle(&wrong), LOAD_C(&wrong)) \
-    X(receive, 16, , receive_rattle(127, units[i % 8]), RECEIVE_C(127, units[i % 8])) \
-    X(receive_state, 16, , receive_rattle(0, units[i % 8]), RECEIVE_C(0, units[i % 8])) \
-    X(mdi_read, 10, , read_rattle(mdi, mdi_len, i % 128), read_c(mdi, mdi_len, i % 128)) \
-    X(mdi_write, 10, , write_rattle((uint32_t)i), write_c((uint32_t)i)) \
+    X(crc8, 4, , meter_crc8(buf, sizeof buf), plain_crc8(buf, sizeof buf)) \
+    X(crc16, 4, , meter_crc16(buf, sizeof buf), plain_crc16(buf, sizeof buf)) \
+    X(disperse, 4, , meter_disperse(buf, sizeof buf, out, sizeof buf), plain_disperse(buf, sizeof buf, out, sizeof buf)) \
+    X(packet_check, 8, , meter_check(255, packet, sizeof packet), plain_check(255, packet, sizeof packet)) \
+    X(frame, 2, state = busy, frame_rattle(&settings), FRAME_C(&settings)) \
+    X(frame_state, 8, state = busy, frame_rattle(&wrong), FRAME_C(&wrong)) \
+    X(load, 8, state = half, load_rattle(&settings), LOAD_C(&settings)) \
+    X(load_state, 8, state = half, load_rattle(&wrong), LOAD_C(&wrong)) \
+    X(receive, 8, , receive_rattle(127, units[i % 8]), RECEIVE_C(127, units[i % 8])) \
+    X(receive_state, 8, , receive_rattle(0, units[i % 8]), RECEIVE_C(0, units[i % 8])) \
+    X(mdi_read, 4, , read_rattle(mdi, mdi_len, i % 128), read_c(mdi, mdi_len, i % 128)) \
+    X(mdi_write, 4, , write_rattle((uint32_t)i), write_c((uint32_t)i)) \
     X(mdi_read_ordered, 1, , read_rattle(ordered, sizeof ordered, 0), read_c(ordered, sizeof ordered, 0)) \
     X(mdi_read_random, 1, , read_rattle(drawn, sizeof drawn, 0), read_c(drawn, sizeof drawn, 0)) \
     X(mdi_read_shared, 1, , read_rattle(shared, sizeof shared, 0), read_c(shared, sizeof shared, 0))
@@ -172,8 +174,16 @@ static unsigned long long sum_of(const void *at, size_t n, unsigned long long su
     for (size_t i = 0; i < n; i++) sum = sum * 31 + ((const uint8_t *)at)[i];
     return sum;
 }
+static unsigned long long sum_wide(const void *at, size_t n, unsigned long long sum) { /* eight bytes at a time: it is counted too */
+    unsigned long long x;
+    for (size_t i = 0; i < n; i += 8) {
+        memcpy(&x, (const uint8_t *)at + i, 8);
+        sum = (sum ^ x) * 0x9e3779b97f4a7c15;
+    }
+    return sum;
+}
 static unsigned long long sum_all(unsigned long long sum) {
-    sum = sum_of(out, sizeof out, sum_of(store, sizeof store, sum_of(buffer, sizeof buffer, sum)));
+    sum = sum_wide(out, sizeof out, sum_wide(store, sizeof store, sum_wide(buffer, sizeof buffer, sum)));
     for (int k = 0; k < 3; k++)
         sum = sum_of(state.q[k].left, 2 * state.q[k].count, sum) * 31 + state.q[k].sent;
     sum = sum_of(state.index, 4, sum) * 31 + state.turn;
@@ -201,6 +211,7 @@ int main(int argc, char **argv) {
     seal(packet, 256);
     fill_stream();
     fill_mdi();
+    if (!strncmp(call, "mdi_read_", 9)) fill_hostile();
     CALLS(RUN)
     if (!found) return 2;
     printf("%llu\n", sum_all(sum));
