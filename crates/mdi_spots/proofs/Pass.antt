@@ -1,24 +1,24 @@
 -- One pass over the items finds the first of each known name. Assumes nothing.
 use Prim.Native.Nat.{ℕ, zero, suc, _+_, _≤_, _<_}
 use mathlib.Core.Path.{_≡_, refl, sym, ap, ap₂, _∙_}
-use mathlib.Core.Bool.{Bool, true, false, _&&_}
+use mathlib.Core.Bool.{Bool, true, false, _&&_, _||_, not}
 use mathlib.Core.List.{List, [], _∷_}
 use native.Mathlib.Omega.{arith}
-use borrow.Author.Tests.{eq-eqb, ne-eqb, eqb-false, ltb-true}
+use borrow.Author.Tests.{eq-eqb, ne-eqb, ltb-true, not-true}
 use lib.Dec.{eqb, ltb}
 use lib.ListN.{length, getD, take, drop, length-drop}
 use lib.Seq.{length-take-le}
 use Rattle.laws.specs.Pick.{pick}
 use Rattle.laws.specs.Big.{bigOf, numberAt, Bytes}
 use Rattle.laws.proofs.Big.{bytes-take, bytes-drop}
-use Rattle.laws.proofs.Flags.{both}
+use Rattle.laws.proofs.Flags.{both, or-false}
 use Rattle.items.specs.Items.{Item, Cut, Found, none, some, bitsAt, itemAt, noItem, itemThen, cutFrom, cutOf, sizeAt, sameName, find, spotOf}
 use Rattle.items.specs.declared.Spot.{Spot}
 use Rattle.items.proofs.Rule.{at-none, at-item, at-fits}
 use Rattle.items.proofs.Names.{same-number}
 use Rattle.items.proofs.Passes.{name-number, whole-number, bits-later}
 use Rattle.mdi_spots.specs.Names.{ptr, dlfc, fac, sdc, sdci, robm, str0, str1, str2, str3, tist}
-use Rattle.mdi_spots.specs.Spotted.{spotsOf, noted, notedAll}
+use Rattle.mdi_spots.specs.Spotted.{spotsOf, noted, known, notedAll}
 use Rattle.mdi_spots.specs.declared.Spots.{Spots}
 
 -- ---- `note`
@@ -57,6 +57,56 @@ pub notes-are : (t : Spots) (key : ℕ) (x : Spot) (r0 r1 r2 r3 r4 r5 r6 r7 r8 r
     → _≡_ {A = Spots} (record { ptr = r0; dlfc = r1; fac = r2; sdc = r3; sdci = r4; robm = r5; str0 = r6; str1 = r7; str2 = r8; str3 = r9; tist = r10 }) (notedAll t key x)
 unfolding notedAll
 notes-are t key x r0 r1 r2 r3 r4 r5 r6 r7 r8 r9 r10 e0 e1 e2 e3 e4 e5 e6 e7 e8 e9 e10 = rw (e0, e1, e2, e3, e4, e5, e6, e7, e8, e9, e10) refl
+
+-- ---- `is_known`
+
+pub known-is : (key : ℕ) (k0 k1 k2 k3 k4 k5 k6 k7 k8 k9 k10 : ℕ)
+    → k0 ≡ numberAt 4 ptr 0
+    → k1 ≡ numberAt 4 dlfc 0
+    → k2 ≡ numberAt 4 fac 0
+    → k3 ≡ numberAt 4 sdc 0
+    → k4 ≡ numberAt 4 sdci 0
+    → k5 ≡ numberAt 4 robm 0
+    → k6 ≡ numberAt 4 str0 0
+    → k7 ≡ numberAt 4 str1 0
+    → k8 ≡ numberAt 4 str2 0
+    → k9 ≡ numberAt 4 str3 0
+    → k10 ≡ numberAt 4 tist 0
+    → (eqb key k0 || eqb key k1 || eqb key k2 || eqb key k3 || eqb key k4 || eqb key k5 || eqb key k6 || eqb key k7 || eqb key k8 || eqb key k9 || eqb key k10) ≡ known key
+unfolding known
+known-is key k0 k1 k2 k3 k4 k5 k6 k7 k8 k9 k10 e0 e1 e2 e3 e4 e5 e6 e7 e8 e9 e10 = rw (e0, e1, e2, e3, e4, e5, e6, e7, e8, e9, e10) refl
+
+-- what is not known is passed over
+same-spot : (old x : Spot) (b : Bool) → b ≡ false → noted old b x ≡ old
+unfolding noted
+same-spot old x b e = rw e refl
+
+pub not-known : (t : Spots) (key : ℕ) (x : Spot) (b : Bool) → b ≡ known key → not b ≡ true → t ≡ notedAll t key x
+unfolding notedAll known
+not-known t key x b e h =
+    let q10 = or-false (eqb key (numberAt 4 ptr 0) || eqb key (numberAt 4 dlfc 0) || eqb key (numberAt 4 fac 0) || eqb key (numberAt 4 sdc 0) || eqb key (numberAt 4 sdci 0) || eqb key (numberAt 4 robm 0) || eqb key (numberAt 4 str0 0) || eqb key (numberAt 4 str1 0) || eqb key (numberAt 4 str2 0) || eqb key (numberAt 4 str3 0)) (eqb key (numberAt 4 tist 0)) (sym e ∙ not-true b h) in
+    let q9 = or-false (eqb key (numberAt 4 ptr 0) || eqb key (numberAt 4 dlfc 0) || eqb key (numberAt 4 fac 0) || eqb key (numberAt 4 sdc 0) || eqb key (numberAt 4 sdci 0) || eqb key (numberAt 4 robm 0) || eqb key (numberAt 4 str0 0) || eqb key (numberAt 4 str1 0) || eqb key (numberAt 4 str2 0)) (eqb key (numberAt 4 str3 0)) (q10 .0) in
+    let q8 = or-false (eqb key (numberAt 4 ptr 0) || eqb key (numberAt 4 dlfc 0) || eqb key (numberAt 4 fac 0) || eqb key (numberAt 4 sdc 0) || eqb key (numberAt 4 sdci 0) || eqb key (numberAt 4 robm 0) || eqb key (numberAt 4 str0 0) || eqb key (numberAt 4 str1 0)) (eqb key (numberAt 4 str2 0)) (q9 .0) in
+    let q7 = or-false (eqb key (numberAt 4 ptr 0) || eqb key (numberAt 4 dlfc 0) || eqb key (numberAt 4 fac 0) || eqb key (numberAt 4 sdc 0) || eqb key (numberAt 4 sdci 0) || eqb key (numberAt 4 robm 0) || eqb key (numberAt 4 str0 0)) (eqb key (numberAt 4 str1 0)) (q8 .0) in
+    let q6 = or-false (eqb key (numberAt 4 ptr 0) || eqb key (numberAt 4 dlfc 0) || eqb key (numberAt 4 fac 0) || eqb key (numberAt 4 sdc 0) || eqb key (numberAt 4 sdci 0) || eqb key (numberAt 4 robm 0)) (eqb key (numberAt 4 str0 0)) (q7 .0) in
+    let q5 = or-false (eqb key (numberAt 4 ptr 0) || eqb key (numberAt 4 dlfc 0) || eqb key (numberAt 4 fac 0) || eqb key (numberAt 4 sdc 0) || eqb key (numberAt 4 sdci 0)) (eqb key (numberAt 4 robm 0)) (q6 .0) in
+    let q4 = or-false (eqb key (numberAt 4 ptr 0) || eqb key (numberAt 4 dlfc 0) || eqb key (numberAt 4 fac 0) || eqb key (numberAt 4 sdc 0)) (eqb key (numberAt 4 sdci 0)) (q5 .0) in
+    let q3 = or-false (eqb key (numberAt 4 ptr 0) || eqb key (numberAt 4 dlfc 0) || eqb key (numberAt 4 fac 0)) (eqb key (numberAt 4 sdc 0)) (q4 .0) in
+    let q2 = or-false (eqb key (numberAt 4 ptr 0) || eqb key (numberAt 4 dlfc 0)) (eqb key (numberAt 4 fac 0)) (q3 .0) in
+    let q1 = or-false (eqb key (numberAt 4 ptr 0)) (eqb key (numberAt 4 dlfc 0)) (q2 .0) in
+    sym (rw (
+      same-spot (t .ptr) x (eqb key (numberAt 4 ptr 0)) (q1 .0),
+      same-spot (t .dlfc) x (eqb key (numberAt 4 dlfc 0)) (q1 .1),
+      same-spot (t .fac) x (eqb key (numberAt 4 fac 0)) (q2 .1),
+      same-spot (t .sdc) x (eqb key (numberAt 4 sdc 0)) (q3 .1),
+      same-spot (t .sdci) x (eqb key (numberAt 4 sdci 0)) (q4 .1),
+      same-spot (t .robm) x (eqb key (numberAt 4 robm 0)) (q5 .1),
+      same-spot (t .str0) x (eqb key (numberAt 4 str0 0)) (q6 .1),
+      same-spot (t .str1) x (eqb key (numberAt 4 str1 0)) (q7 .1),
+      same-spot (t .str2) x (eqb key (numberAt 4 str2 0)) (q8 .1),
+      same-spot (t .str3) x (eqb key (numberAt 4 str3 0)) (q9 .1),
+      same-spot (t .tist) x (eqb key (numberAt 4 tist 0)) (q10 .1),
+    ) refl)
 
 -- ---- one name
 

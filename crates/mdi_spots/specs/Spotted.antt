@@ -33,6 +33,21 @@ spotsOf is =
 unfoldable pub noted : Spot → Bool → Spot → Spot
 noted old same x = pick (same && eqb (old .start) 0) x old
 
+-- the number of a known name
+unfoldable pub known : ℕ → Bool
+known key =
+    eqb key (numberAt 4 ptr 0)
+    || eqb key (numberAt 4 dlfc 0)
+    || eqb key (numberAt 4 fac 0)
+    || eqb key (numberAt 4 sdc 0)
+    || eqb key (numberAt 4 sdci 0)
+    || eqb key (numberAt 4 robm 0)
+    || eqb key (numberAt 4 str0 0)
+    || eqb key (numberAt 4 str1 0)
+    || eqb key (numberAt 4 str2 0)
+    || eqb key (numberAt 4 str3 0)
+    || eqb key (numberAt 4 tist 0)
+
 -- all spots after an item whose name has this number
 unfoldable pub notedAll : Spots → ℕ → Spot → Spots
 notedAll t key x =

@@ -7,7 +7,7 @@ ghost use mathlib.Core.List.{[]};
 ghost use Rattle.laws.specs.Big.{numberAt};
 ghost use Rattle.items.specs.Items.{cutOf};
 ghost use Rattle.mdi_spots.specs.Table.{exactly, wholeBytes, sdcBits, sdciBits};
-ghost use Rattle.mdi_spots.specs.Spotted.{spotsOf, noted, notedAll, away, wrongAt, missingAt, badLengthAt};
+ghost use Rattle.mdi_spots.specs.Spotted.{spotsOf, noted, known, notedAll, away, wrongAt, missingAt, badLengthAt};
 
 // One spot a known name, in the table's order.
 pub struct Spots {
@@ -44,10 +44,30 @@ fn note(old: Spot, key: u32, name: u32, x: Spot) -> Spot
     x
 }
 
-// All spots after an item at x whose name has this number.
+// Whether a number is that of a known name.
+fn is_known(key: u32) -> bool
+    ensures { λ r. ⌜ r ≡ known key ⌝ }
+{
+    (key == number_of(b"*ptr"))
+        | (key == number_of(b"dlfc"))
+        | (key == number_of(b"fac_"))
+        | (key == number_of(b"sdc_"))
+        | (key == number_of(b"sdci"))
+        | (key == number_of(b"robm"))
+        | (key == number_of(b"str0"))
+        | (key == number_of(b"str1"))
+        | (key == number_of(b"str2"))
+        | (key == number_of(b"str3"))
+        | (key == number_of(b"tist"))
+}
+
+// All spots after an item at x whose name has this number. Most items of a long packet are unknown: they are passed over first.
 fn note_all(t: Spots, key: u32, x: Spot) -> Spots
     ensures { λ r. ⌜ r ≡ notedAll t key x ⌝ }
 {
+    if !is_known(key) {
+        return t;
+    }
     let ptr = note(t.ptr, key, number_of(b"*ptr"), x);
     let dlfc = note(t.dlfc, key, number_of(b"dlfc"), x);
     let fac = note(t.fac, key, number_of(b"fac_"), x);

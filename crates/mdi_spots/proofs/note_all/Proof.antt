@@ -1,148 +1,157 @@
-use Rattle.mdi_spots.proofs.Pass.{note-is, notes-are}
+use Rattle.mdi_spots.proofs.Pass.{not-known, note-is, notes-are}
 use Rattle.mdi_spots.specs.Names.{ptr, dlfc, fac, sdc, sdci, robm, str0, str1, str2, str3, tist}
 use borrow.Author.Needs.{needs}
 use Rattle.mdi_spots.proofs.note_all.Statement.{statement}
 use Rattle.mdi_spots.proofs.note_all.Tie as tie
 use Rattle.mdi_spots.proofs.note_all.Reads as reads
 use Rattle.mdi_spots.proofs.note_all.Lts as lts
+use Rattle.mdi_spots.proofs.is_known.Reads as is-known-reads
 use Rattle.mdi_spots.proofs.note.Reads as note-reads
 use Rattle.mdi_spots.proofs.number_of.Reads as number-of-reads
 
--- src/lib.rt:51:42
+-- src/lib.rt:68:9
+is-known-requires : tie.Need-is-known-requires
+is-known-requires c κs = search needs
+
+-- src/lib.rt:69:9
+returns : tie.Need-returns
+returns c = search not-known
+
+-- src/lib.rt:71:42
 slice-aggregate-number-of : tie.Need-slice-aggregate-number-of
 slice-aggregate-number-of c = search needs
 
--- src/lib.rt:51:32
+-- src/lib.rt:71:32
 number-of-requires : tie.Need-number-of-requires
 number-of-requires c κs = search needs
 
--- src/lib.rt:51:9
+-- src/lib.rt:71:9
 note-requires : tie.Need-note-requires
 note-requires c κs = search needs
 
--- src/lib.rt:52:44
+-- src/lib.rt:72:44
 slice-aggregate-number-of-2 : tie.Need-slice-aggregate-number-of-2
 slice-aggregate-number-of-2 c = search needs
 
--- src/lib.rt:52:34
+-- src/lib.rt:72:34
 number-of-requires-2 : tie.Need-number-of-requires-2
 number-of-requires-2 c κs = search needs
 
--- src/lib.rt:52:9
+-- src/lib.rt:72:9
 note-requires-2 : tie.Need-note-requires-2
 note-requires-2 c κs = search needs
 
--- src/lib.rt:53:42
+-- src/lib.rt:73:42
 slice-aggregate-number-of-3 : tie.Need-slice-aggregate-number-of-3
 slice-aggregate-number-of-3 c = search needs
 
--- src/lib.rt:53:32
+-- src/lib.rt:73:32
 number-of-requires-3 : tie.Need-number-of-requires-3
 number-of-requires-3 c κs = search needs
 
--- src/lib.rt:53:9
+-- src/lib.rt:73:9
 note-requires-3 : tie.Need-note-requires-3
 note-requires-3 c κs = search needs
 
--- src/lib.rt:54:42
+-- src/lib.rt:74:42
 slice-aggregate-number-of-4 : tie.Need-slice-aggregate-number-of-4
 slice-aggregate-number-of-4 c = search needs
 
--- src/lib.rt:54:32
+-- src/lib.rt:74:32
 number-of-requires-4 : tie.Need-number-of-requires-4
 number-of-requires-4 c κs = search needs
 
--- src/lib.rt:54:9
+-- src/lib.rt:74:9
 note-requires-4 : tie.Need-note-requires-4
 note-requires-4 c κs = search needs
 
--- src/lib.rt:55:44
+-- src/lib.rt:75:44
 slice-aggregate-number-of-5 : tie.Need-slice-aggregate-number-of-5
 slice-aggregate-number-of-5 c = search needs
 
--- src/lib.rt:55:34
+-- src/lib.rt:75:34
 number-of-requires-5 : tie.Need-number-of-requires-5
 number-of-requires-5 c κs = search needs
 
--- src/lib.rt:55:9
+-- src/lib.rt:75:9
 note-requires-5 : tie.Need-note-requires-5
 note-requires-5 c κs = search needs
 
--- src/lib.rt:56:44
+-- src/lib.rt:76:44
 slice-aggregate-number-of-6 : tie.Need-slice-aggregate-number-of-6
 slice-aggregate-number-of-6 c = search needs
 
--- src/lib.rt:56:34
+-- src/lib.rt:76:34
 number-of-requires-6 : tie.Need-number-of-requires-6
 number-of-requires-6 c κs = search needs
 
--- src/lib.rt:56:9
+-- src/lib.rt:76:9
 note-requires-6 : tie.Need-note-requires-6
 note-requires-6 c κs = search needs
 
--- src/lib.rt:57:44
+-- src/lib.rt:77:44
 slice-aggregate-number-of-7 : tie.Need-slice-aggregate-number-of-7
 slice-aggregate-number-of-7 c = search needs
 
--- src/lib.rt:57:34
+-- src/lib.rt:77:34
 number-of-requires-7 : tie.Need-number-of-requires-7
 number-of-requires-7 c κs = search needs
 
--- src/lib.rt:57:9
+-- src/lib.rt:77:9
 note-requires-7 : tie.Need-note-requires-7
 note-requires-7 c κs = search needs
 
--- src/lib.rt:58:44
+-- src/lib.rt:78:44
 slice-aggregate-number-of-8 : tie.Need-slice-aggregate-number-of-8
 slice-aggregate-number-of-8 c = search needs
 
--- src/lib.rt:58:34
+-- src/lib.rt:78:34
 number-of-requires-8 : tie.Need-number-of-requires-8
 number-of-requires-8 c κs = search needs
 
--- src/lib.rt:58:9
+-- src/lib.rt:78:9
 note-requires-8 : tie.Need-note-requires-8
 note-requires-8 c κs = search needs
 
--- src/lib.rt:59:44
+-- src/lib.rt:79:44
 slice-aggregate-number-of-9 : tie.Need-slice-aggregate-number-of-9
 slice-aggregate-number-of-9 c = search needs
 
--- src/lib.rt:59:34
+-- src/lib.rt:79:34
 number-of-requires-9 : tie.Need-number-of-requires-9
 number-of-requires-9 c κs = search needs
 
--- src/lib.rt:59:9
+-- src/lib.rt:79:9
 note-requires-9 : tie.Need-note-requires-9
 note-requires-9 c κs = search needs
 
--- src/lib.rt:60:44
+-- src/lib.rt:80:44
 slice-aggregate-number-of-10 : tie.Need-slice-aggregate-number-of-10
 slice-aggregate-number-of-10 c = search needs
 
--- src/lib.rt:60:34
+-- src/lib.rt:80:34
 number-of-requires-10 : tie.Need-number-of-requires-10
 number-of-requires-10 c κs = search needs
 
--- src/lib.rt:60:9
+-- src/lib.rt:80:9
 note-requires-10 : tie.Need-note-requires-10
 note-requires-10 c κs = search needs
 
--- src/lib.rt:61:44
+-- src/lib.rt:81:44
 slice-aggregate-number-of-11 : tie.Need-slice-aggregate-number-of-11
 slice-aggregate-number-of-11 c = search needs
 
--- src/lib.rt:61:34
+-- src/lib.rt:81:34
 number-of-requires-11 : tie.Need-number-of-requires-11
 number-of-requires-11 c κs = search needs
 
--- src/lib.rt:61:9
+-- src/lib.rt:81:9
 note-requires-11 : tie.Need-note-requires-11
 note-requires-11 c κs = search needs
 
--- src/lib.rt:48:1
-returns : tie.Need-returns
-returns c =
+-- src/lib.rt:65:1
+returns-2 : tie.Need-returns-2
+returns-2 c =
     let b11 = c in
     let b10 = b11 .before .before .before in
     let b9 = b10 .before .before .before in
@@ -160,6 +169,8 @@ pub note-all-spec : {M : Type 1} → statement M
 note-all-spec =
     tie.close
     (tie.spec
+    is-known-requires
+    returns
     slice-aggregate-number-of
     number-of-requires
     note-requires
@@ -193,4 +204,4 @@ note-all-spec =
     slice-aggregate-number-of-11
     number-of-requires-11
     note-requires-11
-    returns)
+    returns-2)
