@@ -214,6 +214,6 @@ int main(int argc, char **argv) {
     if (!strncmp(call, "mdi_read_", 9)) fill_hostile();
     CALLS(RUN)
     if (!found) return 2;
-    printf("%016llx\n", sum_all(sum)); /* as long for every sum: it is counted too */
+    printf("%llx\n", sum_all(sum) | 1ull << 63); /* 16 digits for every sum: they are counted too */
     return 0;
 }
