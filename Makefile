@@ -6,7 +6,6 @@
 # make cases   writes the stored cases of the answering programs anew (after a call was added to both programs)
 SEED =
 COUNT = 3000
-LIMIT = 1.10
 PREFIX = /usr/local
 DESTDIR =
 NIGHT =
@@ -20,7 +19,7 @@ demo:
 	@sh scripts/demo.sh $(NIGHT)
 
 bench:
-	@sh bench/count.sh "$(LIMIT)"
+	@sh bench/count.sh
 
 install:
 	@sh scripts/install.sh "$(PREFIX)" "$(DESTDIR)"
