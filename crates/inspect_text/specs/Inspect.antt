@@ -2,7 +2,7 @@
 use Prim.Native.Nat.{ℕ, suc, _+_, _-_, _/_, _%_}
 use mathlib.Core.List.{List, [], _∷_, _++_}
 use lib.Dec.{ltb, eqb}
-use lib.ListN.{getD, drop}
+use lib.ListN.{getD, take, drop}
 use Rattle.laws.specs.Pick.{pick}
 use Rattle.copy.specs.Copy.{Puts}
 use Rattle.layout_text.specs.Text.{ascii, decimal}
@@ -59,14 +59,14 @@ timeText (Given s) d = stampText s d
 unfoldable pub lengthText : ℕ → ℕ → Lengths → List ℕ
 lengthText count i x = pick (ltb i count) (ascii " " ++ decimal (x .a + x .b)) []
 
-unfoldable pub streamsText : Description → List ℕ
-streamsText d =
-    ascii " streams"
-    ++ (lengthText (d .count) 0 (getD (d .stream) 0 noStream)
+unfoldable pub lengthsText : Description → List ℕ
+lengthsText d =
+    lengthText (d .count) 0 (getD (d .stream) 0 noStream)
     ++ (lengthText (d .count) 1 (getD (d .stream) 1 noStream)
-    ++ (lengthText (d .count) 2 (getD (d .stream) 2 noStream)
-    ++ (lengthText (d .count) 3 (getD (d .stream) 3 noStream)
-    ++ ascii "\n"))))
+    ++ (lengthText (d .count) 2 (getD (d .stream) 2 noStream) ++ lengthText (d .count) 3 (getD (d .stream) 3 noStream)))
+
+unfoldable pub streamsText : Description → List ℕ
+streamsText d = ascii " streams" ++ (lengthsText d ++ ascii "\n")
 
 -- A to D for 0 to 3
 unfoldable pub modeText : ℕ → List ℕ
@@ -133,7 +133,7 @@ unfoldable pub summaryText : Tally → Date → Date → List ℕ
 summaryText x d e =
     lineText (ascii "packets ") (x .packets)
     ++ (lineText (ascii "read ") (getD (x .numbers) 0 0)
-    ++ (numbersText 1 (drop 1 (x .numbers)) ++ (lineText (ascii "breaks ") (x .breaks) ++ whensText (x .first) d (x .last) e)))
+    ++ (numbersText 1 (take 11 (drop 1 (x .numbers))) ++ (lineText (ascii "breaks ") (x .breaks) ++ whensText (x .first) d (x .last) e)))
 
 pub record Summary (x : Tally) (before after : List ℕ) (length : ℕ) : Type 0 where
   pub date : Date

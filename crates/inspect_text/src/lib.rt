@@ -10,10 +10,10 @@ use record::Time;
 use tally::Tally;
 ghost use mathlib.Core.Path.{_≡_};
 ghost use Prim.Native.Nat.{_+_, _-_, _%_, _≤_, _<_};
-ghost use lib.ListN.{length, drop};
+ghost use lib.ListN.{length, take, drop};
 ghost use Rattle.copy.specs.Copy.{Puts};
 ghost use Rattle.layout_text.specs.Text.{decimal};
-ghost use Rattle.inspect_text.specs.Inspect.{twoText, millisText, clockText, dateText, utcText, stampText, timeText, since, lengthText, streamsText, modeText, contentText, headText, refusedText, rawStampText, rawText, countText, breakText, timesText, numbersText, lineText, whenText, whensText, Line, Summary};
+ghost use Rattle.inspect_text.specs.Inspect.{twoText, millisText, clockText, dateText, utcText, stampText, timeText, since, lengthText, lengthsText, streamsText, modeText, contentText, headText, refusedText, rawStampText, rawText, countText, breakText, timesText, numbersText, lineText, whenText, whensText, Line, Summary};
 
 fn put(src: &[u8], out: &mut [u8], at: usize) -> usize
     requires { ⌜ at + length (now src) ≤ length (now out) ⌝ }
@@ -142,21 +142,28 @@ fn put_length(count: usize, i: usize, x: Lengths, out: &mut [u8], at: usize) -> 
     put_number(wide(x.a) + wide(x.b), out, a)
 }
 
-fn put_streams(d: Description, out: &mut [u8], at: usize) -> usize
-    requires { ⌜ at + 93 ≤ length (now out) ⌝ }
-    ensures { λ r. ⌜ (r ≤ at + 93) × Puts (now (out .entry)) at (streamsText d) (now (out .exit)) r ⌝ }
+fn put_lengths(d: Description, out: &mut [u8], at: usize) -> usize
+    requires { ⌜ at + 84 ≤ length (now out) ⌝ }
+    ensures { λ r. ⌜ (r ≤ at + 84) × Puts (now (out .entry)) at (lengthsText d) (now (out .exit)) r ⌝ }
 {
     let n = d.count;
     let x = d.stream[0];
     let y = d.stream[1];
     let z = d.stream[2];
     let w = d.stream[3];
+    let a = put_length(n, 0, x, out, at);
+    let b = put_length(n, 1, y, out, a);
+    let c = put_length(n, 2, z, out, b);
+    put_length(n, 3, w, out, c)
+}
+
+fn put_streams(d: Description, out: &mut [u8], at: usize) -> usize
+    requires { ⌜ at + 93 ≤ length (now out) ⌝ }
+    ensures { λ r. ⌜ (r ≤ at + 93) × Puts (now (out .entry)) at (streamsText d) (now (out .exit)) r ⌝ }
+{
     let a = put(b" streams", out, at);
-    let b = put_length(n, 0, x, out, a);
-    let c = put_length(n, 1, y, out, b);
-    let e = put_length(n, 2, z, out, c);
-    let f = put_length(n, 3, w, out, e);
-    put(b"\n", out, f)
+    let b = put_lengths(d, out, a);
+    put(b"\n", out, b)
 }
 
 // The robustness mode, A to D for 0 to 3.
@@ -287,7 +294,7 @@ fn put_times(number: u64, times: u64, out: &mut [u8], at: usize) -> usize
 // The numbers 1 to 11.
 fn put_numbers(ns: &[u64; 12], out: &mut [u8], at: usize) -> usize
     requires { ⌜ at + 561 ≤ length (now out) ⌝ }
-    ensures { λ r. ⌜ (r ≤ at + 561) × Puts (now (out .entry)) at (numbersText 1 (drop 1 (now (ns .entry)))) (now (out .exit)) r ⌝ }
+    ensures { λ r. ⌜ (r ≤ at + 561) × Puts (now (out .entry)) at (numbersText 1 (take 11 (drop 1 (now (ns .entry))))) (now (out .exit)) r ⌝ }
 {
     let mut next = at;
     let mut i = 0;
