@@ -187,7 +187,7 @@ fn turn(fd: i32, buffer: &mut [u8], w: Walk) -> Walk {
 }
 
 // A proved loop has to end, and nothing says that the input does. So the loop counts its turns down, from a number that no run uses up.
-fn walk(fd: i32, buffer: &mut [u8]) -> Walk {
+fn walk_all(fd: i32, buffer: &mut [u8]) -> Walk {
     let mut w = begin();
     let mut turns = u64::MAX;
     while turns > 0 && !w.done {
@@ -215,7 +215,7 @@ fn fail(name: &[u8]) {
 
 fn inspect(fd: i32, name: &[u8]) {
     let mut buffer = [0u8; BUFFER];
-    let w = walk(fd, &mut buffer);
+    let w = walk_all(fd, &mut buffer);
     if w.failed {
         fail(name);
         return;
