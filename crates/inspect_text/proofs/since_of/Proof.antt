@@ -1,0 +1,28 @@
+-- `inspect_text::since_of` meets its contract. Assumes nothing.
+use native.Mathlib.Omega.{arith}
+use Rattle.inspect_text.proofs.Ways.{since-none, since-given}
+use borrow.Author.Needs.{needs}
+use Rattle.inspect_text.proofs.since_of.Statement.{statement}
+use Rattle.inspect_text.proofs.since_of.Tie as tie
+
+enum-told : tie.Need-enum-told
+enum-told c = search needs
+
+enum-known-t : tie.Need-enum-known-t
+enum-known-t c = search needs
+
+cast-less : tie.Need-cast-less
+cast-less c = search needs
+
+less-requires : tie.Need-less-requires
+less-requires c κs = search needs
+
+returns : tie.Need-returns
+returns c = search since-none
+
+returns-2 : tie.Need-returns-2
+returns-2 c = search (since-given, needs)
+
+pub since-of-spec : {M : Type 1} → statement M
+since-of-spec =
+    tie.close (tie.spec enum-told enum-known-t cast-less less-requires returns returns-2)
