@@ -6,3 +6,4 @@ pub mod UniqueSteps
 pub mod UniqueStream
 pub mod RejectedReader
 pub mod UniqueMdi
+pub mod UniqueText
