@@ -25,6 +25,7 @@ use Rattle.items.specs.declared.Spot.{Spot}
 use Rattle.items.specs.Items as tags
 use Rattle.repeats.specs.declared.Repeat.{Repeat}
 use Rattle.repeats.specs.Repeats.{repeatFor}
+use Rattle.mdi_spots.specs.declared.Passed.{Passed}
 use Rattle.mdi_spots.specs.declared.Spots.{Spots}
 use Rattle.mdi_spots.specs.Spotted as spotted
 use Rattle.mdi_check.specs.declared.Verdict.{Verdict}
@@ -120,8 +121,8 @@ item-value = settled (λ i. tags.shownAt (i .0) (i .1))
 pub first-again : Settles (λ (p : List ℕ) (r : Repeat). r ≡ repeatFor p)
 first-again = settled repeatFor
 
-pub known-items : Settles (λ (p : List ℕ) (r : Spots). r ≡ spotted.spotsOf (tags.cutOf p .items))
-known-items = settled (λ p. spotted.spotsOf (tags.cutOf p .items))
+pub known-items : Settles (λ (p : List ℕ) (r : Passed). r ≡ spotted.passedOf (tags.cutOf p))
+known-items = settled (λ p. spotted.passedOf (tags.cutOf p))
 
 pub known-missing : Settles (λ (t : Spots) (r : Bool). r ≡ spotted.missingAt t)
 known-missing = settled spotted.missingAt

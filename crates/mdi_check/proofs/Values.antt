@@ -30,7 +30,7 @@ use Rattle.mdi_spots.specs.Table.{ill}
 use Rattle.mdi_spots.specs.Spotted.{spotsOf, away}
 use Rattle.mdi_spots.specs.declared.Spots.{Spots}
 use Rattle.mdi_spots.proofs.Items.{ill-is, size-is}
-use Rattle.mdi_check.specs.Conditions.{letters, protocol, knownMode, onTime, badValue, badFac, badSdc, served, unserved, mscMode, badDescription, saidOf, given, agrees, badStreams}
+use Rattle.mdi_check.specs.Conditions.{letters, protocol, knownMode, onTime, badValue, badFac, badSdc, served, unserved, mscMode, badDescription, saidOf, given, agrees, agreesAt, badStreams}
 
 -- ---- one value
 
@@ -129,23 +129,23 @@ module _ (S : List ℕ) where
         let m : f .msc ≡ facOf (valueOf (find fac is)) .msc = ap (λ (g : Fac). g .msc) (q ∙ ap facOf (shown fac (t .fac) (ap (λ (r : Spots). r .fac) e) u p)) in
         one-not (λ w. illFormed (mscMode is) (describedBy w)) sdci (t .sdci) (ap (λ (r : Spots). r .sdci) e) a v b k r (l ∙ ap₂ illFormed m s)
 
-    pub streams-at : (v : List ℕ) (d : Description) (a b0 b1 b2 b3 : Bool)
-        → v ≡ shownAt S (t .sdci) → d ≡ describedBy v → a ≡ not (away (t .sdci))
-        → b0 ≡ eqb (bytesFor (t .str0 .bits)) (saidOf d 0) → b1 ≡ eqb (bytesFor (t .str1 .bits)) (saidOf d 1)
-        → b2 ≡ eqb (bytesFor (t .str2 .bits)) (saidOf d 2) → b3 ≡ eqb (bytesFor (t .str3 .bits)) (saidOf d 3)
-        → (a && not (b0 && b1 && b2 && b3)) ≡ badStreams is
-    unfolding badStreams spotsOf agrees
-    streams-at v d a b0 b1 b2 b3 p q r e0 e1 e2 e3 =
+    pub streams-at : (v : List ℕ) (d : Description) (a b : Bool)
+        → v ≡ shownAt S (t .sdci) → d ≡ describedBy v → a ≡ not (away (t .sdci)) → b ≡ agreesAt t d → (a && not b) ≡ badStreams is
+    unfolding badStreams spotsOf agrees agreesAt
+    streams-at v d a b p q r k =
         let k0 = sized str0 (t .str0) (ap (λ (r : Spots). r .str0) e) in
         let k1 = sized str1 (t .str1) (ap (λ (r : Spots). r .str1) e) in
         let k2 = sized str2 (t .str2) (ap (λ (r : Spots). r .str2) e) in
         let k3 = sized str3 (t .str3) (ap (λ (r : Spots). r .str3) e) in
-        let f0 : b0 ≡ eqb (given str0 is) (saidOf (describedBy v) 0) = e0 ∙ ap₂ (λ (k : ℕ) (x : Description). eqb k (saidOf x 0)) k0 q in
-        let f1 : b1 ≡ eqb (given str1 is) (saidOf (describedBy v) 1) = e1 ∙ ap₂ (λ (k : ℕ) (x : Description). eqb k (saidOf x 1)) k1 q in
-        let f2 : b2 ≡ eqb (given str2 is) (saidOf (describedBy v) 2) = e2 ∙ ap₂ (λ (k : ℕ) (x : Description). eqb k (saidOf x 2)) k2 q in
-        let f3 : b3 ≡ eqb (given str3 is) (saidOf (describedBy v) 3) = e3 ∙ ap₂ (λ (k : ℕ) (x : Description). eqb k (saidOf x 3)) k3 q in
-        let f : (b0 && b1 && b2 && b3) ≡ agrees is (describedBy v) = rw (f0, f1, f2, f3) refl in
-        one (λ w. agrees is (describedBy w)) sdci (t .sdci) (ap (λ (r : Spots). r .sdci) e) a v (b0 && b1 && b2 && b3) r p f
+        let f : b ≡ agrees is (describedBy v) = k ∙ rw (k0, k1, k2, k3, q) refl in
+        one (λ w. agrees is (describedBy w)) sdci (t .sdci) (ap (λ (r : Spots). r .sdci) e) a v b r p f
 
 pub fills-is : (bits : ℕ) (l : Lengths) (n x y : ℕ) → n ≡ bytesFor bits → x ≡ l .a → y ≡ l .b → eqb n (x + y) ≡ eqb (bytesFor bits) (l .a + l .b)
 fills-is bits l n x y p q r = rw (p, q, r) refl
+
+pub agree-is : (t : Spots) (d : Description) (b0 b1 b2 b3 : Bool)
+    → b0 ≡ eqb (bytesFor (t .str0 .bits)) (saidOf d 0) → b1 ≡ eqb (bytesFor (t .str1 .bits)) (saidOf d 1)
+    → b2 ≡ eqb (bytesFor (t .str2 .bits)) (saidOf d 2) → b3 ≡ eqb (bytesFor (t .str3 .bits)) (saidOf d 3)
+    → (b0 && b1 && b2 && b3) ≡ agreesAt t d
+unfolding agreesAt
+agree-is t d b0 b1 b2 b3 e0 e1 e2 e3 = rw (e0, e1, e2, e3) refl

@@ -9,16 +9,16 @@ use lib.ListN.{length}
 use Rattle.laws.specs.Limits.{longest}
 use Rattle.laws.specs.Pick.{pick}
 use Rattle.laws.specs.Refuse.{Test, test, refusedWith, refusedAt}
-use Rattle.items.specs.Items.{Item, cutOf, twice, isThere, placeOf, walkedOf}
-use Rattle.items.specs.declared.Walked.{Walked}
+use Rattle.items.specs.Items.{Item, cutOf, twice, isThere, placeOf}
 use Rattle.repeats.specs.Repeats.{repeatOf, repeatFor}
 use Rattle.repeats.specs.declared.Repeat.{Repeat}
 use Rattle.mdi_spots.specs.Table.{missing, badLength}
-use Rattle.mdi_spots.specs.Spotted.{spotsOf, missingAt, badLengthAt}
+use Rattle.mdi_spots.specs.Spotted.{spotsOf, passedOf, missingAt, badLengthAt}
 use Rattle.mdi_spots.specs.declared.Spots.{Spots}
+use Rattle.mdi_spots.specs.declared.Passed.{Passed}
 use Rattle.mdi_spots.proofs.Items.{missing-is, length-is}
 use Rattle.mdi_check.specs.Conditions.{badValue, badFac, badSdc, unserved, badDescription, badStreams}
-use Rattle.mdi_check.specs.Refusals.{itemTests, nowhere, testsFor, checkFor}
+use Rattle.mdi_check.specs.Refusals.{contentTests, itemTests, nowhere, testsFor, checkFor}
 use Rattle.mdi_check.specs.declared.Verdict.{Verdict}
 
 -- ---- 4 to 11
@@ -54,24 +54,24 @@ module _ (is : List Item) (t : Spots) (e : t ≡ spotsOf is) (b4 : Bool) (e4 : b
           unfolding itemTests
           no-8 h = rw (f4, h4, f5, h5, ← e6, h6, ← e7, h7, ← e8, h) refl
 
-          module _ (h8 : b8 ≡ false) (b9 : Bool) (e9 : b9 ≡ unserved is) where
-            pub no-9 : b9 ≡ true → 9 ≡ refusedWith (itemTests is)
-            unfolding itemTests
-            no-9 h = rw (f4, h4, f5, h5, ← e6, h6, ← e7, h7, ← e8, h8, ← e9, h) refl
+          pub no-more : b8 ≡ false → (n : ℕ) → n ≡ refusedWith (contentTests is) → n ≡ refusedWith (itemTests is)
+          unfolding itemTests
+          no-more h n e = e ∙ rw (f4, h4, f5, h5, ← e6, h6, ← e7, h7, ← e8, h) refl
 
-            module _ (h9 : b9 ≡ false) (b10 : Bool) (e10 : b10 ≡ badDescription is) where
-              pub no-10 : b10 ≡ true → 10 ≡ refusedWith (itemTests is)
-              unfolding itemTests
-              no-10 h = rw (f4, h4, f5, h5, ← e6, h6, ← e7, h7, ← e8, h8, ← e9, h9, ← e10, h) refl
+module _ (is : List Item) (b9 : Bool) (e9 : b9 ≡ unserved is) where
+  pub no-9 : b9 ≡ true → 9 ≡ refusedWith (contentTests is)
+  no-9 h = rw (← e9, h) refl
 
-              module _ (h10 : b10 ≡ false) (b11 : Bool) (e11 : b11 ≡ badStreams is) where
-                pub no-11 : b11 ≡ true → 11 ≡ refusedWith (itemTests is)
-                unfolding itemTests
-                no-11 h = rw (f4, h4, f5, h5, ← e6, h6, ← e7, h7, ← e8, h8, ← e9, h9, ← e10, h10, ← e11, h) refl
+  module _ (h9 : b9 ≡ false) (b10 : Bool) (e10 : b10 ≡ badDescription is) where
+    pub no-10 : b10 ≡ true → 10 ≡ refusedWith (contentTests is)
+    no-10 h = rw (← e9, h9, ← e10, h) refl
 
-                pub no-0 : b11 ≡ false → 0 ≡ refusedWith (itemTests is)
-                unfolding itemTests
-                no-0 h = rw (f4, h4, f5, h5, ← e6, h6, ← e7, h7, ← e8, h8, ← e9, h9, ← e10, h10, ← e11, h) refl
+    module _ (h10 : b10 ≡ false) (b11 : Bool) (e11 : b11 ≡ badStreams is) where
+      pub no-11 : b11 ≡ true → 11 ≡ refusedWith (contentTests is)
+      no-11 h = rw (← e9, h9, ← e10, h10, ← e11, h) refl
+
+      pub no-0 : b11 ≡ false → 0 ≡ refusedWith (contentTests is)
+      no-0 h = rw (← e9, h9, ← e10, h10, ← e11, h) refl
 
 -- ---- 1 to 3, and then the items
 
@@ -94,15 +94,19 @@ items-place is =
 abbrev refusal : ℕ → ℕ → Verdict
 refusal number place = record { number = number; place = place; spots = nowhere }
 
+pub spots-of : (p : List ℕ) (w : Passed) → w ≡ passedOf (cutOf p) → w .spots ≡ spotsOf (cutOf p .items)
+unfolding passedOf
+spots-of p w e = ap (λ (x : Passed). x .spots) e
+
 module _ (p : List ℕ) (v : Verdict) where
   pub way-1 : 65528 < length p → v ≡ refusal 1 0 → v ≡ checkFor p
   unfolding checkFor testsFor
   way-1 h e = e ∙ rw (lt-ltb 65528 (length p) h) refl
 
-  module _ (h1 : length p ≤ 65528) (w : Walked) (ew : w ≡ walkedOf (cutOf p)) where
+  module _ (h1 : length p ≤ 65528) (w : Passed) (ew : w ≡ passedOf (cutOf p)) where
     f2 : cutOf p .stop ≡ w .stop
-    unfolding walkedOf
-    f2 = sym (ap (λ (x : Walked). x .stop) ew)
+    unfolding passedOf
+    f2 = sym (ap (λ (x : Passed). x .stop) ew)
 
     pub way-2 : 8 ≤ length p - w .stop → v ≡ refusal 2 (w .stop) → v ≡ checkFor p
     unfolding checkFor testsFor
@@ -133,7 +137,7 @@ module _ (p : List ℕ) (v : Verdict) where
         pub way-on : (n ≡ 0 → ⊥) → v ≡ refusal n 0 → v ≡ checkFor p
         way-on h e = e ∙ sym (on ∙ rw (ne-eqb n 0 h) refl)
 
-pub way-done : (p : List ℕ) → length p ≤ 65528 → (w : Walked) → w ≡ walkedOf (cutOf p) → length p - w .stop < 8 → (r : Repeat) → r ≡ repeatFor p → r .found ≡ false
-    → (n : ℕ) → n ≡ refusedWith (itemTests (cutOf p .items)) → n ≡ 0 → (t : Spots) → t ≡ spotsOf (cutOf p .items)
-    → _≡_ {A = Verdict} (record { number = 0; place = 0; spots = t }) (checkFor p)
-way-done p h1 w ew h2 r er h3 n en z t et = rw (on p (record { number = 0; place = 0; spots = t }) h1 w ew h2 r er h3 n en, z, et) refl
+pub way-done : (p : List ℕ) → length p ≤ 65528 → (w : Passed) → w ≡ passedOf (cutOf p) → length p - w .stop < 8 → (r : Repeat) → r ≡ repeatFor p → r .found ≡ false
+    → (n : ℕ) → n ≡ refusedWith (itemTests (cutOf p .items)) → n ≡ 0
+    → _≡_ {A = Verdict} (record { number = 0; place = 0; spots = w .spots }) (checkFor p)
+way-done p h1 w ew h2 r er h3 n en z = rw (on p (record { number = 0; place = 0; spots = w .spots }) h1 w ew h2 r er h3 n en, z, spots-of p w ew) refl

@@ -13,9 +13,10 @@ use Rattle.description.specs.declared.Description.{Description}
 use Rattle.fac.specs.Channel as fast
 use Rattle.fac.specs.Channel.{facOf, notServed}
 use Rattle.sdc.specs.Block as block
-use Rattle.items.specs.Items.{Item, find, valueOf, sameName}
+use Rattle.items.specs.Items.{Item, find, valueOf, sameName, bytesFor}
 use Rattle.mdi_spots.specs.Names.{ptr, fac, sdc, sdci, robm, str0, str1, str2, str3, tist}
 use Rattle.mdi_spots.specs.Table.{ill}
+use Rattle.mdi_spots.specs.declared.Spots.{Spots}
 
 -- ---- 6: protocol, major revision, robustness, milliseconds
 
@@ -72,6 +73,14 @@ given name is = length (valueOf (find name is))
 unfoldable pub agrees : List Item → Description → Bool
 agrees is d =
     eqb (given str0 is) (saidOf d 0) && eqb (given str1 is) (saidOf d 1) && eqb (given str2 is) (saidOf d 2) && eqb (given str3 is) (saidOf d 3)
+
+-- the same asked of the spots
+unfoldable pub agreesAt : Spots → Description → Bool
+agreesAt t d =
+    eqb (bytesFor (t .str0 .bits)) (saidOf d 0)
+    && eqb (bytesFor (t .str1 .bits)) (saidOf d 1)
+    && eqb (bytesFor (t .str2 .bits)) (saidOf d 2)
+    && eqb (bytesFor (t .str3 .bits)) (saidOf d 3)
 
 unfoldable pub badStreams : List Item → Bool
 badStreams is = ill (λ v. agrees is (describedBy v)) (find sdci is)

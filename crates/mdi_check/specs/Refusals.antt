@@ -14,6 +14,10 @@ use Rattle.mdi_spots.specs.Table.{missing, badLength}
 use Rattle.mdi_check.specs.Conditions.{badValue, badFac, badSdc, unserved, badDescription, badStreams}
 use Rattle.mdi_check.specs.declared.Verdict.{Verdict}
 
+-- what the FAC, the description and the streams say together
+abbrev pub contentTests : List Item → List Test
+contentTests is = test (unserved is) 9 ∷ test (badDescription is) 10 ∷ test (badStreams is) 11 ∷ []
+
 -- what the items say
 unfoldable pub itemTests : List Item → List Test
 itemTests is =
@@ -22,10 +26,7 @@ itemTests is =
     ∷ test (badValue is) 6
     ∷ test (badFac is) 7
     ∷ test (badSdc is) 8
-    ∷ test (unserved is) 9
-    ∷ test (badDescription is) 10
-    ∷ test (badStreams is) 11
-    ∷ []
+    ∷ contentTests is
 
 -- too long; 8 bytes or more behind the last whole item, at the place of the item that begins there; a name that came earlier, at the
 -- first item that has such a name

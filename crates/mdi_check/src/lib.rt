@@ -1,5 +1,6 @@
 // The check of an MDI packet (01, "MDI packet" and "Numbers given back"): the lowest number whose condition holds over the whole packet,
 // and its place.
+use description::Description;
 use description::Lengths;
 use items::Spot;
 use mdi_spots::Spots;
@@ -11,8 +12,8 @@ ghost use lib.Dec.{eqb};
 ghost use Prim.Native.Nat.{_+_, _<_};
 ghost use Rattle.items.specs.Items.{cutOf, bytesFor};
 ghost use Rattle.mdi_spots.specs.Spotted.{spotsOf, away};
-ghost use Rattle.mdi_check.specs.Conditions.{protocol, knownMode, onTime, badValue, badFac, badSdc, unserved, badDescription, badStreams};
-ghost use Rattle.mdi_check.specs.Refusals.{itemTests, nowhere, checkFor};
+ghost use Rattle.mdi_check.specs.Conditions.{protocol, knownMode, onTime, badValue, badFac, badSdc, agreesAt};
+ghost use Rattle.mdi_check.specs.Refusals.{contentTests, itemTests, nowhere, checkFor};
 
 // Number 0: the packet is well formed, and its known items stand at these spots. The place is an offset in the packet for 2 and 3, else
 // 0.
@@ -107,24 +108,6 @@ fn bad_sdc(s: &[u8], t: Spots) -> bool
     is_there(t.sdc) & !sdc::is_sealed(items::value(s, t.sdc))
 }
 
-// 9
-fn is_unserved(s: &[u8], t: Spots) -> bool
-    requires { ⌜ t ≡ spotsOf (cutOf (now s) .items) ⌝ }
-    ensures { λ r. ⌜ r ≡ unserved (cutOf (now (s .entry)) .items) ⌝ }
-{
-    is_there(t.fac) & fac::not_served(fac::of_value(items::value(s, t.fac)))
-}
-
-// 10
-fn bad_description(s: &[u8], t: Spots) -> bool
-    requires { ⌜ t ≡ spotsOf (cutOf (now s) .items) ⌝ }
-    ensures { λ r. ⌜ r ≡ badDescription (cutOf (now (s .entry)) .items) ⌝ }
-{
-    let f = fac::of_value(items::value(s, t.fac));
-    let d = description::of_value(items::value(s, t.sdci));
-    is_there(t.sdci) & description::ill_formed(d, f.msc)
-}
-
 fn wide(x: u16) -> usize
     ensures { λ r. ⌜ (r ≡ x) × (r < 65536) ⌝ }
 {
@@ -138,21 +121,37 @@ fn fills(bits: u32, l: Lengths) -> bool
     items::bytes(bits) == wide(l.a) + wide(l.b)
 }
 
-// 11
-fn bad_streams(s: &[u8], t: Spots) -> bool
-    requires { ⌜ t ≡ spotsOf (cutOf (now s) .items) ⌝ }
-    ensures { λ r. ⌜ r ≡ badStreams (cutOf (now (s .entry)) .items) ⌝ }
+// Whether each stream has as many bytes as the description says.
+fn agree(t: Spots, d: Description) -> bool
+    ensures { λ r. ⌜ r ≡ agreesAt t d ⌝ }
 {
-    let d = description::of_value(items::value(s, t.sdci));
     let s0 = d.stream[0];
     let s1 = d.stream[1];
     let s2 = d.stream[2];
     let s3 = d.stream[3];
-    let same = fills(t.str0.bits, s0)
+    fills(t.str0.bits, s0)
         & fills(t.str1.bits, s1)
         & fills(t.str2.bits, s2)
-        & fills(t.str3.bits, s3);
-    is_there(t.sdci) & !same
+        & fills(t.str3.bits, s3)
+}
+
+// 9 to 11: the FAC and the description are taken apart once.
+fn check_contents(s: &[u8], t: Spots) -> u32
+    requires { ⌜ t ≡ spotsOf (cutOf (now s) .items) ⌝ }
+    ensures { λ r. ⌜ r ≡ refusedWith (contentTests (cutOf (now (s .entry)) .items)) ⌝ }
+{
+    let f = fac::of_value(items::value(s, t.fac));
+    if is_there(t.fac) & fac::not_served(f) {
+        return 9;
+    }
+    let d = description::of_value(items::value(s, t.sdci));
+    if is_there(t.sdci) & description::ill_formed(d, f.msc) {
+        return 10;
+    }
+    if is_there(t.sdci) & !agree(t, d) {
+        return 11;
+    }
+    0
 }
 
 // 4 to 11.
@@ -175,16 +174,7 @@ fn check_items(s: &[u8], t: Spots) -> u32
     if bad_sdc(s, t) {
         return 8;
     }
-    if is_unserved(s, t) {
-        return 9;
-    }
-    if bad_description(s, t) {
-        return 10;
-    }
-    if bad_streams(s, t) {
-        return 11;
-    }
-    0
+    check_contents(s, t)
 }
 
 pub fn check(packet: &[u8]) -> Verdict
@@ -193,15 +183,15 @@ pub fn check(packet: &[u8]) -> Verdict
     if 65528 < packet.len() {
         return refused(1, 0);
     }
-    let w = items::walk(packet);
-    if 8 <= packet.len() - w.stop {
-        return refused(2, w.stop);
+    let seen = mdi_spots::find_all(packet);
+    if 8 <= packet.len() - seen.stop {
+        return refused(2, seen.stop);
     }
     let again = repeats::first_again(packet);
     if again.found {
         return refused(3, again.place);
     }
-    let spots = mdi_spots::find_all(packet);
+    let spots = seen.spots;
     let number = check_items(packet, spots);
     if number != 0 {
         return refused(number, 0);

@@ -18,94 +18,76 @@ use Rattle.items.proofs.Rule.{at-none, at-item, at-fits}
 use Rattle.items.proofs.Names.{same-number}
 use Rattle.items.proofs.Passes.{name-number, whole-number, bits-later}
 use Rattle.mdi_spots.specs.Names.{ptr, dlfc, fac, sdc, sdci, robm, str0, str1, str2, str3, tist}
-use Rattle.mdi_spots.specs.Spotted.{spotsOf, noted, known, notedAll}
+use Rattle.mdi_spots.specs.Spotted.{spotsOf, passedOf, noted, notedAll}
 use Rattle.mdi_spots.specs.declared.Spots.{Spots}
+use Rattle.mdi_spots.specs.declared.Passed.{Passed}
 
 -- ---- `note`
 
-module _ (old : Spot) (key name : ℕ) (x : Spot) where
-  pub note-other : (key ≡ name → ⊥) → old ≡ noted old (eqb key name) x
+module _ (old x : Spot) where
+  pub note-later : (old .start ≡ 0 → ⊥) → old ≡ noted old true x
   unfolding noted
-  note-other h = rw (ne-eqb key name h) refl
+  note-later h = rw (ne-eqb (old .start) 0 h) refl
 
-  pub note-later : key ≡ name → (old .start ≡ 0 → ⊥) → old ≡ noted old (eqb key name) x
+  pub note-first : old .start ≡ 0 → x ≡ noted old true x
   unfolding noted
-  note-later e h = rw (eq-eqb key name e, ne-eqb (old .start) 0 h) refl
-
-  pub note-first : key ≡ name → old .start ≡ 0 → x ≡ noted old (eqb key name) x
-  unfolding noted
-  note-first e h = rw (eq-eqb key name e, eq-eqb (old .start) 0 h) refl
+  note-first h = rw (eq-eqb (old .start) 0 h) refl
 
 -- ---- `note_all`
 
--- one spot, with the number of its name
-pub note-is : (N : List ℕ) (old : Spot) (key name : ℕ) (x r : Spot) → name ≡ numberAt 4 N 0 → r ≡ noted old (eqb key name) x → r ≡ noted old (eqb key (numberAt 4 N 0)) x
-note-is N old key name x r p q = q ∙ ap (λ (k : ℕ). noted old (eqb key k) x) p
+-- the spot of one name changed
+abbrev pub placed : List ℕ → Spots → Spot → Spots
+placed N t s =
+    record {
+      ptr = pick (sameName N ptr) s (t .ptr);
+      dlfc = pick (sameName N dlfc) s (t .dlfc);
+      fac = pick (sameName N fac) s (t .fac);
+      sdc = pick (sameName N sdc) s (t .sdc);
+      sdci = pick (sameName N sdci) s (t .sdci);
+      robm = pick (sameName N robm) s (t .robm);
+      str0 = pick (sameName N str0) s (t .str0);
+      str1 = pick (sameName N str1) s (t .str1);
+      str2 = pick (sameName N str2) s (t .str2);
+      str3 = pick (sameName N str3) s (t .str3);
+      tist = pick (sameName N tist) s (t .tist);
+    }
 
-pub notes-are : (t : Spots) (key : ℕ) (x : Spot) (r0 r1 r2 r3 r4 r5 r6 r7 r8 r9 r10 : Spot)
-    → r0 ≡ noted (t .ptr) (eqb key (numberAt 4 ptr 0)) x
-    → r1 ≡ noted (t .dlfc) (eqb key (numberAt 4 dlfc 0)) x
-    → r2 ≡ noted (t .fac) (eqb key (numberAt 4 fac 0)) x
-    → r3 ≡ noted (t .sdc) (eqb key (numberAt 4 sdc 0)) x
-    → r4 ≡ noted (t .sdci) (eqb key (numberAt 4 sdci 0)) x
-    → r5 ≡ noted (t .robm) (eqb key (numberAt 4 robm 0)) x
-    → r6 ≡ noted (t .str0) (eqb key (numberAt 4 str0 0)) x
-    → r7 ≡ noted (t .str1) (eqb key (numberAt 4 str1 0)) x
-    → r8 ≡ noted (t .str2) (eqb key (numberAt 4 str2 0)) x
-    → r9 ≡ noted (t .str3) (eqb key (numberAt 4 str3 0)) x
-    → r10 ≡ noted (t .tist) (eqb key (numberAt 4 tist 0)) x
-    → _≡_ {A = Spots} (record { ptr = r0; dlfc = r1; fac = r2; sdc = r3; sdci = r4; robm = r5; str0 = r6; str1 = r7; str2 = r8; str3 = r9; tist = r10 }) (notedAll t key x)
-unfolding notedAll
-notes-are t key x r0 r1 r2 r3 r4 r5 r6 r7 r8 r9 r10 e0 e1 e2 e3 e4 e5 e6 e7 e8 e9 e10 = rw (e0, e1, e2, e3, e4, e5, e6, e7, e8, e9, e10) refl
+-- the number of a name of the table
+pub note-named : (N : List ℕ) (t : Spots) (key name : ℕ) (x old s : Spot) → placed N t (noted old true x) ≡ notedAll t (numberAt 4 N 0) x → name ≡ numberAt 4 N 0 → key ≡ name → s ≡ noted old true x → placed N t s ≡ notedAll t key x
+note-named N t key name x old s here n k e = ap (placed N t) e ∙ here ∙ ap (λ (y : ℕ). notedAll t y x) (sym (k ∙ n))
 
--- ---- `is_known`
-
-pub known-is : (key : ℕ) (k0 k1 k2 k3 k4 k5 k6 k7 k8 k9 k10 : ℕ)
-    → k0 ≡ numberAt 4 ptr 0
-    → k1 ≡ numberAt 4 dlfc 0
-    → k2 ≡ numberAt 4 fac 0
-    → k3 ≡ numberAt 4 sdc 0
-    → k4 ≡ numberAt 4 sdci 0
-    → k5 ≡ numberAt 4 robm 0
-    → k6 ≡ numberAt 4 str0 0
-    → k7 ≡ numberAt 4 str1 0
-    → k8 ≡ numberAt 4 str2 0
-    → k9 ≡ numberAt 4 str3 0
-    → k10 ≡ numberAt 4 tist 0
-    → (eqb key k0 || eqb key k1 || eqb key k2 || eqb key k3 || eqb key k4 || eqb key k5 || eqb key k6 || eqb key k7 || eqb key k8 || eqb key k9 || eqb key k10) ≡ known key
-unfolding known
-known-is key k0 k1 k2 k3 k4 k5 k6 k7 k8 k9 k10 e0 e1 e2 e3 e4 e5 e6 e7 e8 e9 e10 = rw (e0, e1, e2, e3, e4, e5, e6, e7, e8, e9, e10) refl
-
--- what is not known is passed over
-same-spot : (old x : Spot) (b : Bool) → b ≡ false → noted old b x ≡ old
+-- the number of no name of the table
+other : (N : List ℕ) (old : Spot) (key name : ℕ) (x : Spot) → name ≡ numberAt 4 N 0 → (key ≡ name → ⊥) → noted old (eqb key (numberAt 4 N 0)) x ≡ old
 unfolding noted
-same-spot old x b e = rw e refl
+other N old key name x n h = rw (ne-eqb key (numberAt 4 N 0) (λ e. h (e ∙ sym n))) refl
 
-pub not-known : (t : Spots) (key : ℕ) (x : Spot) (b : Bool) → b ≡ known key → not b ≡ true → t ≡ notedAll t key x
-unfolding notedAll known
-not-known t key x b e h =
-    let q10 = or-false (eqb key (numberAt 4 ptr 0) || eqb key (numberAt 4 dlfc 0) || eqb key (numberAt 4 fac 0) || eqb key (numberAt 4 sdc 0) || eqb key (numberAt 4 sdci 0) || eqb key (numberAt 4 robm 0) || eqb key (numberAt 4 str0 0) || eqb key (numberAt 4 str1 0) || eqb key (numberAt 4 str2 0) || eqb key (numberAt 4 str3 0)) (eqb key (numberAt 4 tist 0)) (sym e ∙ not-true b h) in
-    let q9 = or-false (eqb key (numberAt 4 ptr 0) || eqb key (numberAt 4 dlfc 0) || eqb key (numberAt 4 fac 0) || eqb key (numberAt 4 sdc 0) || eqb key (numberAt 4 sdci 0) || eqb key (numberAt 4 robm 0) || eqb key (numberAt 4 str0 0) || eqb key (numberAt 4 str1 0) || eqb key (numberAt 4 str2 0)) (eqb key (numberAt 4 str3 0)) (q10 .0) in
-    let q8 = or-false (eqb key (numberAt 4 ptr 0) || eqb key (numberAt 4 dlfc 0) || eqb key (numberAt 4 fac 0) || eqb key (numberAt 4 sdc 0) || eqb key (numberAt 4 sdci 0) || eqb key (numberAt 4 robm 0) || eqb key (numberAt 4 str0 0) || eqb key (numberAt 4 str1 0)) (eqb key (numberAt 4 str2 0)) (q9 .0) in
-    let q7 = or-false (eqb key (numberAt 4 ptr 0) || eqb key (numberAt 4 dlfc 0) || eqb key (numberAt 4 fac 0) || eqb key (numberAt 4 sdc 0) || eqb key (numberAt 4 sdci 0) || eqb key (numberAt 4 robm 0) || eqb key (numberAt 4 str0 0)) (eqb key (numberAt 4 str1 0)) (q8 .0) in
-    let q6 = or-false (eqb key (numberAt 4 ptr 0) || eqb key (numberAt 4 dlfc 0) || eqb key (numberAt 4 fac 0) || eqb key (numberAt 4 sdc 0) || eqb key (numberAt 4 sdci 0) || eqb key (numberAt 4 robm 0)) (eqb key (numberAt 4 str0 0)) (q7 .0) in
-    let q5 = or-false (eqb key (numberAt 4 ptr 0) || eqb key (numberAt 4 dlfc 0) || eqb key (numberAt 4 fac 0) || eqb key (numberAt 4 sdc 0) || eqb key (numberAt 4 sdci 0)) (eqb key (numberAt 4 robm 0)) (q6 .0) in
-    let q4 = or-false (eqb key (numberAt 4 ptr 0) || eqb key (numberAt 4 dlfc 0) || eqb key (numberAt 4 fac 0) || eqb key (numberAt 4 sdc 0)) (eqb key (numberAt 4 sdci 0)) (q5 .0) in
-    let q3 = or-false (eqb key (numberAt 4 ptr 0) || eqb key (numberAt 4 dlfc 0) || eqb key (numberAt 4 fac 0)) (eqb key (numberAt 4 sdc 0)) (q4 .0) in
-    let q2 = or-false (eqb key (numberAt 4 ptr 0) || eqb key (numberAt 4 dlfc 0)) (eqb key (numberAt 4 fac 0)) (q3 .0) in
-    let q1 = or-false (eqb key (numberAt 4 ptr 0)) (eqb key (numberAt 4 dlfc 0)) (q2 .0) in
+pub note-none : (t : Spots) (key : ℕ) (x : Spot) (k0 k1 k2 k3 k4 k5 k6 k7 k8 k9 k10 : ℕ)
+    → k0 ≡ numberAt 4 ptr 0 → (key ≡ k0 → ⊥)
+    → k1 ≡ numberAt 4 dlfc 0 → (key ≡ k1 → ⊥)
+    → k2 ≡ numberAt 4 fac 0 → (key ≡ k2 → ⊥)
+    → k3 ≡ numberAt 4 sdc 0 → (key ≡ k3 → ⊥)
+    → k4 ≡ numberAt 4 sdci 0 → (key ≡ k4 → ⊥)
+    → k5 ≡ numberAt 4 robm 0 → (key ≡ k5 → ⊥)
+    → k6 ≡ numberAt 4 str0 0 → (key ≡ k6 → ⊥)
+    → k7 ≡ numberAt 4 str1 0 → (key ≡ k7 → ⊥)
+    → k8 ≡ numberAt 4 str2 0 → (key ≡ k8 → ⊥)
+    → k9 ≡ numberAt 4 str3 0 → (key ≡ k9 → ⊥)
+    → k10 ≡ numberAt 4 tist 0 → (key ≡ k10 → ⊥)
+    → t ≡ notedAll t key x
+unfolding notedAll
+note-none t key x k0 k1 k2 k3 k4 k5 k6 k7 k8 k9 k10 e0 h0 e1 h1 e2 h2 e3 h3 e4 h4 e5 h5 e6 h6 e7 h7 e8 h8 e9 h9 e10 h10 =
     sym (rw (
-      same-spot (t .ptr) x (eqb key (numberAt 4 ptr 0)) (q1 .0),
-      same-spot (t .dlfc) x (eqb key (numberAt 4 dlfc 0)) (q1 .1),
-      same-spot (t .fac) x (eqb key (numberAt 4 fac 0)) (q2 .1),
-      same-spot (t .sdc) x (eqb key (numberAt 4 sdc 0)) (q3 .1),
-      same-spot (t .sdci) x (eqb key (numberAt 4 sdci 0)) (q4 .1),
-      same-spot (t .robm) x (eqb key (numberAt 4 robm 0)) (q5 .1),
-      same-spot (t .str0) x (eqb key (numberAt 4 str0 0)) (q6 .1),
-      same-spot (t .str1) x (eqb key (numberAt 4 str1 0)) (q7 .1),
-      same-spot (t .str2) x (eqb key (numberAt 4 str2 0)) (q8 .1),
-      same-spot (t .str3) x (eqb key (numberAt 4 str3 0)) (q9 .1),
-      same-spot (t .tist) x (eqb key (numberAt 4 tist 0)) (q10 .1),
+      other ptr (t .ptr) key k0 x e0 h0,
+      other dlfc (t .dlfc) key k1 x e1 h1,
+      other fac (t .fac) key k2 x e2 h2,
+      other sdc (t .sdc) key k3 x e3 h3,
+      other sdci (t .sdci) key k4 x e4 h4,
+      other robm (t .robm) key k5 x e5 h5,
+      other str0 (t .str0) key k6 x e6 h6,
+      other str1 (t .str1) key k7 x e7 h7,
+      other str2 (t .str2) key k8 x e8 h8,
+      other str3 (t .str3) key k9 x e9 h9,
+      other tist (t .tist) key k10 x e10 h10,
     ) refl)
 
 -- ---- one name
@@ -176,21 +158,24 @@ from is =
 
 pub record Passing (S : List ℕ) (t : Spots) (at : ℕ) : Type 0 where
   pub inside : at ≤ length S
+  pub stop : cutFrom (drop at S) at .stop ≡ cutOf S .stop
   pub rest : mergedAll t (cutFrom (drop at S) at .items) ≡ spotsOf (cutOf S .items)
 
 pub passing-first : (S : List ℕ) (t : Spots) → t ≡ spotsOf [] → Passing S t 0
 unfolding cutOf
 passing-first S t e = record {
   inside = omega arith;
+  stop = refl;
   rest = ap (λ (r : Spots). mergedAll r (cutFrom S 0 .items)) e ∙ from (cutFrom S 0 .items);
 }
 
 module _ (S : List ℕ) (t : Spots) (at n : ℕ) (w : Passing S t at) (size : n ≡ sizeAt S at) where
-  pub passing-done : n ≡ 0 → t ≡ spotsOf (cutOf S .items)
-  unfolding mergedAll noItem find
+  pub passing-done : n ≡ 0 → (_≡_ {A = Passed} (record { spots = t; stop = at }) (passedOf (cutOf S))) × (at ≤ length S)
+  unfolding passedOf mergedAll noItem find
   passing-done z =
-      let e : mergedAll t (cutFrom (drop at S) at .items) ≡ t = ap (λ (c : Cut). mergedAll t (c .items)) (at-none S at n size z) in
-      sym e ∙ w .rest
+      let none′ = at-none S at n size z in
+      let e : mergedAll t (cutFrom (drop at S) at .items) ≡ t = ap (λ (c : Cut). mergedAll t (c .items)) none′ in
+      (ap₂ (λ (r : Spots) (k : ℕ). record { spots = r; stop = k }) (sym e ∙ w .rest) (sym (ap (λ (c : Cut). c .stop) none′) ∙ w .stop), w .inside)
 
   module _ (some′ : n ≡ 0 → ⊥) (sb : Bytes S) (key bits : ℕ) (ke : key ≡ numberAt 4 S at) (be : bits ≡ numberAt 4 S (at + 4)) where
     abbrev i : Item
@@ -235,7 +220,9 @@ module _ (S : List ℕ) (t : Spots) (at n : ℕ) (w : Passing S t at) (size : n 
         ) refl
 
     pub passing-more : (u : Spots) → u ≡ notedAll t key (record { start = at + 8; bits = bits }) → Passing S u (at + n)
+    unfolding itemThen
     passing-more u e = record {
       inside = at-fits S at n size some′ .1;
+      stop = sym (ap (λ (c : Cut). c .stop) (at-item S at n size some′)) ∙ w .stop;
       rest = ap (λ (r : Spots). mergedAll r (cutFrom (drop (at + n) S) (at + n) .items)) e ∙ step ∙ w .rest;
     }

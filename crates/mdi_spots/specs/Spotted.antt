@@ -6,11 +6,12 @@ use mathlib.Core.List.{List}
 use lib.Dec.{eqb}
 use Rattle.laws.specs.Big.{numberAt}
 use Rattle.laws.specs.Pick.{pick}
-use Rattle.items.specs.Items.{Item, find, spotOf}
+use Rattle.items.specs.Items.{Item, Cut, find, spotOf}
 use Rattle.items.specs.declared.Spot.{Spot}
 use Rattle.mdi_spots.specs.Names.{ptr, dlfc, fac, sdc, sdci, robm, str0, str1, str2, str3, tist}
 use Rattle.mdi_spots.specs.Table.{exactly, wholeBytes, sdcBits, sdciBits}
 use Rattle.mdi_spots.specs.declared.Spots.{Spots}
+use Rattle.mdi_spots.specs.declared.Passed.{Passed}
 
 unfoldable pub spotsOf : List Item → Spots
 spotsOf is =
@@ -28,25 +29,14 @@ spotsOf is =
       tist = spotOf (find tist is);
     }
 
+-- with where the whole items stop
+unfoldable pub passedOf : Cut → Passed
+passedOf c = record { spots = spotsOf (c .items); stop = c .stop }
+
 -- ---- one pass over the items
 -- the spot of a name after an item, of that name or not, that stands at x: the first item of the name stays
 unfoldable pub noted : Spot → Bool → Spot → Spot
 noted old same x = pick (same && eqb (old .start) 0) x old
-
--- the number of a known name
-unfoldable pub known : ℕ → Bool
-known key =
-    eqb key (numberAt 4 ptr 0)
-    || eqb key (numberAt 4 dlfc 0)
-    || eqb key (numberAt 4 fac 0)
-    || eqb key (numberAt 4 sdc 0)
-    || eqb key (numberAt 4 sdci 0)
-    || eqb key (numberAt 4 robm 0)
-    || eqb key (numberAt 4 str0 0)
-    || eqb key (numberAt 4 str1 0)
-    || eqb key (numberAt 4 str2 0)
-    || eqb key (numberAt 4 str3 0)
-    || eqb key (numberAt 4 tist 0)
 
 -- all spots after an item whose name has this number
 unfoldable pub notedAll : Spots → ℕ → Spot → Spots

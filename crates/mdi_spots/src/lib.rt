@@ -2,12 +2,14 @@
 // has a length that is not in the table.
 use items::Spot;
 ghost use mathlib.Core.Path.{_≡_};
-ghost use lib.Dec.{eqb};
+ghost use mathlib.Core.Bool.{true};
 ghost use mathlib.Core.List.{[]};
+ghost use Prim.Native.Nat.{_≤_};
+ghost use lib.ListN.{length};
 ghost use Rattle.laws.specs.Big.{numberAt};
 ghost use Rattle.items.specs.Items.{cutOf};
 ghost use Rattle.mdi_spots.specs.Table.{exactly, wholeBytes, sdcBits, sdciBits};
-ghost use Rattle.mdi_spots.specs.Spotted.{spotsOf, noted, known, notedAll, away, wrongAt, missingAt, badLengthAt};
+ghost use Rattle.mdi_spots.specs.Spotted.{spotsOf, passedOf, noted, notedAll, away, wrongAt, missingAt, badLengthAt};
 
 // One spot a known name, in the table's order.
 pub struct Spots {
@@ -24,6 +26,12 @@ pub struct Spots {
     pub tist: Spot,
 }
 
+// What one pass over a packet gives: the spots of its known items, and the offset behind its last whole item.
+pub struct Passed {
+    pub spots: Spots,
+    pub stop: usize,
+}
+
 // Four bytes as a number.
 fn number_of(name: &[u8]) -> u32
     ensures { λ r. ⌜ r ≡ numberAt 4 (now (name .entry)) 0 ⌝ }
@@ -31,67 +39,67 @@ fn number_of(name: &[u8]) -> u32
     fields::read32(name, 0)
 }
 
-// The spot of a name after an item at x: the first item of the name stays.
-fn note(old: Spot, key: u32, name: u32, x: Spot) -> Spot
-    ensures { λ r. ⌜ r ≡ noted old (eqb key name) x ⌝ }
+// The spot of a name after an item of the name at x: the first one stays.
+fn note(old: Spot, x: Spot) -> Spot
+    ensures { λ r. ⌜ r ≡ noted old true x ⌝ }
 {
-    if key != name {
-        return old;
-    }
     if old.start != 0 {
         return old;
     }
     x
 }
 
-// Whether a number is that of a known name.
-fn is_known(key: u32) -> bool
-    ensures { λ r. ⌜ r ≡ known key ⌝ }
-{
-    (key == number_of(b"*ptr"))
-        | (key == number_of(b"dlfc"))
-        | (key == number_of(b"fac_"))
-        | (key == number_of(b"sdc_"))
-        | (key == number_of(b"sdci"))
-        | (key == number_of(b"robm"))
-        | (key == number_of(b"str0"))
-        | (key == number_of(b"str1"))
-        | (key == number_of(b"str2"))
-        | (key == number_of(b"str3"))
-        | (key == number_of(b"tist"))
-}
-
-// All spots after an item at x whose name has this number. Most items of a long packet are unknown: they are passed over first.
+// All spots after an item at x whose name has this number. The table's names are tried in their order and left at the one found; an
+// unknown item is passed over.
 fn note_all(t: Spots, key: u32, x: Spot) -> Spots
     ensures { λ r. ⌜ r ≡ notedAll t key x ⌝ }
 {
-    if !is_known(key) {
-        return t;
+    let mut r = t;
+    if key == number_of(b"*ptr") {
+        r.ptr = note(t.ptr, x);
+        return r;
     }
-    let ptr = note(t.ptr, key, number_of(b"*ptr"), x);
-    let dlfc = note(t.dlfc, key, number_of(b"dlfc"), x);
-    let fac = note(t.fac, key, number_of(b"fac_"), x);
-    let sdc = note(t.sdc, key, number_of(b"sdc_"), x);
-    let sdci = note(t.sdci, key, number_of(b"sdci"), x);
-    let robm = note(t.robm, key, number_of(b"robm"), x);
-    let str0 = note(t.str0, key, number_of(b"str0"), x);
-    let str1 = note(t.str1, key, number_of(b"str1"), x);
-    let str2 = note(t.str2, key, number_of(b"str2"), x);
-    let str3 = note(t.str3, key, number_of(b"str3"), x);
-    let tist = note(t.tist, key, number_of(b"tist"), x);
-    Spots {
-        ptr,
-        dlfc,
-        fac,
-        sdc,
-        sdci,
-        robm,
-        str0,
-        str1,
-        str2,
-        str3,
-        tist,
+    if key == number_of(b"dlfc") {
+        r.dlfc = note(t.dlfc, x);
+        return r;
     }
+    if key == number_of(b"fac_") {
+        r.fac = note(t.fac, x);
+        return r;
+    }
+    if key == number_of(b"sdc_") {
+        r.sdc = note(t.sdc, x);
+        return r;
+    }
+    if key == number_of(b"sdci") {
+        r.sdci = note(t.sdci, x);
+        return r;
+    }
+    if key == number_of(b"robm") {
+        r.robm = note(t.robm, x);
+        return r;
+    }
+    if key == number_of(b"str0") {
+        r.str0 = note(t.str0, x);
+        return r;
+    }
+    if key == number_of(b"str1") {
+        r.str1 = note(t.str1, x);
+        return r;
+    }
+    if key == number_of(b"str2") {
+        r.str2 = note(t.str2, x);
+        return r;
+    }
+    if key == number_of(b"str3") {
+        r.str3 = note(t.str3, x);
+        return r;
+    }
+    if key == number_of(b"tist") {
+        r.tist = note(t.tist, x);
+        return r;
+    }
+    r
 }
 
 fn nowhere() -> Spots
@@ -113,22 +121,21 @@ fn nowhere() -> Spots
     }
 }
 
-// In one pass over the items.
-pub fn find_all(s: &[u8]) -> Spots
-    ensures { λ r. ⌜ r ≡ spotsOf (cutOf (now (s .entry)) .items) ⌝ }
+pub fn find_all(s: &[u8]) -> Passed
+    ensures { λ r. ⌜ (r ≡ passedOf (cutOf (now (s .entry)))) × (r .stop ≤ length (now (s .entry))) ⌝ }
 {
-    let mut t = nowhere();
+    let mut spots = nowhere();
     let mut at: usize = 0;
     loop {
         let n = items::size_at(s, at);
         if n == 0 {
-            return t;
+            return Passed { spots, stop: at };
         }
         let x = Spot {
             start: at + 8,
             bits: fields::read32(s, at + 4),
         };
-        t = note_all(t, fields::read32(s, at), x);
+        spots = note_all(spots, fields::read32(s, at), x);
         at += n;
     }
 }

@@ -14,10 +14,10 @@ use Rattle.mdi_spots.proofs.note_all.Reads as note-all-reads
 use Rattle.mdi_spots.proofs.nowhere.Reads as nowhere-reads
 
 abbrev Inv-loop : tie.InvT-loop
-Inv-loop s t₀ at₀ t at = Passing s t at
+Inv-loop s spots₀ at₀ spots at = Passing s spots at
 
 abbrev μ-loop : tie.MeasureT-loop
-μ-loop s t₀ at₀ t at = length s - at
+μ-loop s spots₀ at₀ spots at = length s - at
 
 -- src/lib.rt:100:9
 nowhere-requires : tie.Need-nowhere-requires Inv-loop μ-loop
@@ -37,7 +37,8 @@ size-at-requires c κs =
 -- src/lib.rt:105:13
 returns : tie.Need-returns Inv-loop μ-loop
 returns c =
-    search passing-done
+    let l = c .before .before in
+    passing-done _ _ _ _ (l .loop .inv) (c .before .size-at .ensures) (c .if1 .taken)
 
 -- src/lib.rt:108:20
 add-t7 : tie.Need-add-t7 Inv-loop μ-loop
