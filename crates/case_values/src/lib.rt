@@ -1,6 +1,11 @@
 // Values that several answering programs read from a case and write to an answer (docs/CASES.md, "Values that several calls share").
-// As with the framing, the promises say that positions stay within bounds; what is read and written is compared with the second program.
+// What is read is promised; of what is written, as with the framing, that positions stay within bounds: the bytes are compared with the
+// second program.
+ghost use mathlib.Core.Path.{_≡_};
+ghost use mathlib.Core.Bool.{_&&_, _||_};
 ghost use Prim.Native.Nat.{_≤_};
+ghost use lib.Dec.{eqb};
+ghost use Rattle.case_values.specs.Values.{lengthsIn, descriptionIn, stampIn};
 use cases::answer;
 use cases::case;
 use clock::Stamp;
@@ -13,15 +18,21 @@ pub const DESCRIPTION: usize = 19;
 
 pub const STAMP: usize = 12;
 
-fn wide8(x: u8) -> u64 {
+fn wide8(x: u8) -> u64
+    ensures { λ r. ⌜ r ≡ x ⌝ }
+{
     x as u64
 }
 
-fn wide16(x: u16) -> u64 {
+fn wide16(x: u16) -> u64
+    ensures { λ r. ⌜ r ≡ x ⌝ }
+{
     x as u64
 }
 
-fn lengths_at(body: &[u8], at: usize) -> Lengths {
+fn lengths_at(body: &[u8], at: usize) -> Lengths
+    ensures { λ r. ⌜ r ≡ lengthsIn (now (body .entry)) at ⌝ }
+{
     Lengths {
         a: fields::read16(body, at),
         b: fields::read16(body, case::past(at, 2)),
@@ -29,7 +40,9 @@ fn lengths_at(body: &[u8], at: usize) -> Lengths {
 }
 
 // The description at a position of the body.
-pub fn description_at(body: &[u8], at: usize) -> Description {
+pub fn description_at(body: &[u8], at: usize) -> Description
+    ensures { λ r. ⌜ r ≡ descriptionIn (now (body .entry)) at ⌝ }
+{
     let s0 = lengths_at(body, case::past(at, 3));
     let s1 = lengths_at(body, case::past(at, 7));
     let s2 = lengths_at(body, case::past(at, 11));
@@ -69,7 +82,9 @@ pub fn tell_description(out: &mut [u8], at: usize, d: Description) -> usize
 }
 
 // The timestamp at a position of the body.
-pub fn stamp_at(body: &[u8], at: usize) -> Stamp {
+pub fn stamp_at(body: &[u8], at: usize) -> Stamp
+    ensures { λ r. ⌜ r ≡ stampIn (now (body .entry)) at ⌝ }
+{
     Stamp {
         utco: fields::read16(body, at),
         seconds: fields::read64(body, case::past(at, 2)),
@@ -103,7 +118,7 @@ fn two_at(body: &[u8], at: usize, x: &mut [u8], y: &mut [u8]) -> Two {
     }
 }
 
-// The streams or outputs of a case, two and two.
+// The streams or outputs of a case, two and two: each stands at the front of the slice that it was read into.
 pub struct Four {
     pub t: Two,
     pub u: Two,
@@ -123,13 +138,17 @@ pub fn four_at(
 }
 
 // Where the body goes on behind the four.
-pub fn behind(n: Four) -> usize {
+pub fn behind(n: Four) -> usize
+    ensures { λ r. ⌜ r ≡ n .u .next ⌝ }
+{
     let u = n.u;
     u.next
 }
 
 // All stand whole in the body, and the last of them ends it.
-pub fn ready(n: Four, s: case::Taken, end: usize) -> bool {
+pub fn ready(n: Four, s: case::Taken, end: usize) -> bool
+    ensures { λ r. ⌜ r ≡ (s .whole && n .t .whole && n .u .whole && (eqb (s .next) end || eqb (n .u .next) end)) ⌝ }
+{
     let t = n.t;
     let u = n.u;
     s.whole & t.whole & u.whole & ((s.next == end) | (u.next == end))

@@ -41,7 +41,8 @@ use Rattle.mdi_laws.specs.Typed.{Typed}
 use Rattle.mdi_laws.specs.WellFormed.{WellFormed}
 use Rattle.mdi_laws.proofs.Accepts.{rising, well}
 use Rattle.mdi_laws.proofs.Ignored.{place-left}
-use Rattle.mdi_laws.proofs.Back.{read-back, stream-back, said-most, agreed-each}
+use Rattle.mdi_laws.proofs.Values.{said-most, agreed-each}
+use Rattle.mdi_laws.proofs.Back.{read-back, stream-back}
 
 abbrev isSome : Found → Bool
 isSome none = false
