@@ -8,6 +8,7 @@ use lib.ListN.{length, take, length-append}
 use lib.Seq.{take-all}
 use Rattle.laws.specs.Written.{written}
 use Rattle.laws.proofs.Written.{written-none, write-next}
+use Rattle.moves.specs.Moves.{placed}
 use Rattle.copy.specs.Copy.{nextFor, outputFor, Puts}
 
 module _ (src dst : List ℕ) (at : ℕ) where
@@ -19,10 +20,9 @@ module _ (src dst : List ℕ) (at : ℕ) where
   unfolding nextFor outputFor
   too-far l h = rw (lt-leb (at + length src) (length dst) (omega arith)) (refl, refl)
 
-  pub done : length src ≤ length dst → at ≤ length dst - length src → (e : List ℕ) (j : ℕ) → length src ≤ j → e ≡ written dst at (take j src)
-      → (at + length src ≡ nextFor src dst at) × (e ≡ outputFor src dst at)
-  unfolding nextFor outputFor
-  done l h e j k q = rw (le-leb (at + length src) (length dst) (omega arith)) (refl, q ∙ ap (written dst at) (take-all j src k))
+  pub done : length src ≤ length dst → at ≤ length dst - length src → (e : List ℕ) → e ≡ placed dst at src → (at + length src ≡ nextFor src dst at) × (e ≡ outputFor src dst at)
+  unfolding nextFor outputFor placed
+  done l h e q = let f = le-leb (at + length src) (length dst) (omega arith) in (rw f refl, q)
 
 -- one piece that fits
 pub puts : (src d e : List ℕ) (at n : ℕ) → at + length src ≤ length d → n ≡ nextFor src d at → e ≡ outputFor src d at → Puts d at src e n

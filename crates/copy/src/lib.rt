@@ -15,10 +15,6 @@ pub fn put(src: &[u8], dst: &mut [u8], at: usize) -> usize
     if dst.len() - src.len() < at {
         return at;
     }
-    let mut j = 0;
-    while j < src.len() {
-        dst[at + j] = src[j];
-        j += 1;
-    }
+    moves::copy(src, dst, at);
     at + src.len()
 }

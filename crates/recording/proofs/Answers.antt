@@ -4,7 +4,7 @@ use mathlib.Core.Bool.{Bool, true, false}
 use mathlib.Core.Path.{_≡_, refl, sym, ap, _∙_}
 use mathlib.Core.List.{List, []}
 use native.Mathlib.Omega.{arith}
-use borrow.Author.Tests.{le-ltb, lt-ltb, eq-eqb, ne-eqb, eqb-true, eqb-false, ltb-false}
+use borrow.Author.Tests.{le-ltb, le-leb, lt-ltb, eq-eqb, ne-eqb, eqb-true, eqb-false, ltb-false}
 use lib.Dec.{lit<, eqb}
 use lib.ListN.{length, getD, take, drop, set, length-append}
 use Rattle.laws.specs.Big.{bytesOf, numberAt}
@@ -13,8 +13,9 @@ use Rattle.laws.specs.Refuse.{refusedWith, refusedAt}
 use Rattle.laws.specs.Written.{written}
 use Rattle.laws.proofs.Big.{bytes-length}
 use Rattle.laws.proofs.Refuse.{free, no-place}
-use Rattle.laws.proofs.Written.{set-written, write-next}
+use Rattle.laws.proofs.Written.{set-written, write-next, written-length}
 use Rattle.fields.specs.Numbers.{putAt}
+use Rattle.moves.specs.Moves.{placed}
 use Rattle.fields.proofs.Reading.{number-out}
 use Rattle.fields.proofs.Writing.{put-in}
 use Rattle.recording.specs.declared.Step.{Step}
@@ -187,7 +188,11 @@ module _ (packet out : List ℕ) (at : ℕ) where
       write-next out d at (bytesOf 4 (length packet)) packet (at + 4) n h (p ∙ put-in 4 out at (length packet) h)
 
   pub append-done : length packet ≤ 65528 → at + (4 + length packet) ≤ length out
-      → (d : List ℕ) → d ≡ putAt 4 out at (length packet) → (e : List ℕ) → e ≡ written d (at + 4) packet
+      → (d : List ℕ) → d ≡ putAt 4 out at (length packet) → (e : List ℕ) → e ≡ placed d (at + 4) packet
       → (record { number = 0; length = at + (4 + length packet) } ≡ grownFor packet out at) × (e ≡ outputFor packet out at)
-  unfolding appendTests appendNumber grownFor outputFor
-  append-done h l d p e q = simp (le-ltb _ _ h, entry-length packet, le-ltb _ _ l) (refl, q ∙ laid d (omega arith) p)
+  unfolding appendTests appendNumber grownFor outputFor placed
+  append-done h l d p e q =
+      let b = bytes-length 4 (length packet) in
+      let k : length d ≡ length out = ap length (p ∙ put-in 4 out at (length packet) (omega arith)) ∙ written-length out at (bytesOf 4 (length packet)) (omega arith) in
+      let f : at + 4 + length packet ≤ length d = omega arith in
+      simp (le-ltb _ _ h, entry-length packet, le-ltb _ _ l) (refl, q ∙ rw (le-leb _ _ f) refl ∙ laid d (omega arith) p)

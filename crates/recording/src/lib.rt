@@ -165,20 +165,9 @@ pub fn append(packet: &[u8], out: &mut [u8], at: u64) -> Grown
     }
     let from = at as usize;
     fields::write32(out, from, size as u32);
-    copy(packet, out, from + 4);
+    moves::copy(packet, out, from + 4);
     Grown {
         number: 0,
         length: at + need as u64,
-    }
-}
-
-fn copy(packet: &[u8], out: &mut [u8], at: usize)
-    requires { ⌜ at + length (now packet) ≤ length (now out) ⌝ }
-    ensures { λ _. ⌜ now (out .exit) ≡ written (now (out .entry)) at (now (packet .entry)) ⌝ }
-{
-    let mut i = 0;
-    while i < packet.len() {
-        out[at + i] = packet[i];
-        i += 1;
     }
 }
