@@ -56,6 +56,10 @@ noStream = record { a = 0; b = 0 }
 abbrev pub nothing : Description
 nothing = record { level = record { a = 0; b = 0 }; count = 0; stream = noStream ∷ noStream ∷ noStream ∷ noStream ∷ [] }
 
+-- the bytes of both parts of the stream in a slot; 0 in a slot in which there is none
+abbrev pub saidOf : Description → ℕ → ℕ
+saidOf d k = getD (d .stream) k noStream .a + getD (d .stream) k noStream .b
+
 -- the lengths that three bytes say
 unfoldable pub lengthsOf : List ℕ → Lengths
 lengthsOf s = record { a = getD (fieldsIn lengthBits s) 0 0; b = getD (fieldsIn lengthBits s) 1 0 }

@@ -13,7 +13,7 @@ use Rattle.laws.specs.Big.{bigOf, numberAt, Bytes}
 use Rattle.laws.proofs.Big.{bytes-take}
 use Rattle.clock.specs.Stamps.{decodedFor}
 use Rattle.clock.specs.declared.Given.{Given}
-use Rattle.description.specs.Bytes.{noStream, describedBy}
+use Rattle.description.specs.Bytes.{saidOf, describedBy}
 use Rattle.description.specs.WellFormed.{illFormed}
 use Rattle.description.specs.declared.Description.{Description}
 use Rattle.description.specs.declared.Lengths.{Lengths}
@@ -30,7 +30,7 @@ use Rattle.mdi_spots.specs.Table.{ill}
 use Rattle.mdi_spots.specs.Spotted.{spotsOf, away}
 use Rattle.mdi_spots.specs.declared.Spots.{Spots}
 use Rattle.mdi_spots.proofs.Items.{ill-is, size-is}
-use Rattle.mdi_check.specs.Conditions.{letters, protocol, knownMode, onTime, badValue, badFac, badSdc, served, unserved, mscMode, badDescription, saidOf, given, agrees, agreesAt, badStreams}
+use Rattle.mdi_check.specs.Conditions.{letters, protocol, knownMode, onTime, badValue, badFac, badSdc, served, unserved, mscMode, badDescription, given, agrees, agreesAt, badStreams}
 
 -- ---- one value
 

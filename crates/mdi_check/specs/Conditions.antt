@@ -7,7 +7,7 @@ use lib.Dec.{leb, eqb}
 use lib.ListN.{length, getD, take}
 use Rattle.laws.specs.Big.{numberAt}
 use Rattle.clock.specs.Stamps.{decodedFor}
-use Rattle.description.specs.Bytes.{noStream, describedBy}
+use Rattle.description.specs.Bytes.{saidOf, describedBy}
 use Rattle.description.specs.WellFormed.{illFormed}
 use Rattle.description.specs.declared.Description.{Description}
 use Rattle.fac.specs.Channel as fast
@@ -61,10 +61,6 @@ unfoldable pub badDescription : List Item → Bool
 badDescription is = ill (λ v. not (illFormed (mscMode is) (describedBy v))) (find sdci is)
 
 -- ---- 11: the bytes of a stream are not as many as the description says
-
--- both parts of a stream; 0 in a slot in which there is none
-abbrev pub saidOf : Description → ℕ → ℕ
-saidOf d k = getD (d .stream) k noStream .a + getD (d .stream) k noStream .b
 
 -- an absent stream has length 0
 abbrev pub given : List ℕ → List Item → ℕ

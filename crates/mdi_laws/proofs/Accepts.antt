@@ -14,7 +14,7 @@ use Rattle.laws.specs.Pick.{pick}
 use Rattle.laws.specs.Refuse.{Test, refusedWith, refusedAt, Rising, Free, Among}
 use Rattle.laws.proofs.Refuse.{free, real, accepted, least, Given, given}
 use Rattle.laws.proofs.Flags.{both, or-false}
-use Rattle.description.specs.Bytes.{noStream, slotAt, describedBy}
+use Rattle.description.specs.Bytes.{noStream, saidOf, slotAt, describedBy}
 use Rattle.description.specs.WellFormed as described
 use Rattle.description.proofs.Meaning.{within}
 use Rattle.description.specs.WellFormed.{illFormed}
@@ -26,7 +26,7 @@ use Rattle.items.specs.Items.{Item, Found, none, some, cutOf, find, twice, isTh
 use Rattle.items.proofs.Once.{once-of, of-once}
 use Rattle.mdi_spots.specs.Names.{ptr, dlfc, fac, sdc, sdci, robm, str0, str1, str2, str3, tist}
 use Rattle.mdi_spots.specs.Table.{absent, wrong, ill, exactly, wholeBytes, sdcBits, sdciBits, missing, badLength}
-use Rattle.mdi_check.specs.Conditions.{protocol, knownMode, onTime, served, mscMode, saidOf, agrees, badValue, badFac, badSdc, unserved, badDescription, badStreams}
+use Rattle.mdi_check.specs.Conditions.{protocol, knownMode, onTime, served, mscMode, agrees, badValue, badFac, badSdc, unserved, badDescription, badStreams}
 use Rattle.mdi_check.specs.Conditions as conditions
 use Rattle.mdi_check.specs.Refusals.{itemTests, testsFor}
 use Rattle.mdi.specs.Reading.{streamOf}

@@ -17,6 +17,7 @@ use Rattle.clock.proofs.Fit.{within}
 use Rattle.description.specs.declared.Description.{Description}
 use Rattle.description.specs.declared.Lengths.{Lengths}
 use Rattle.description.specs.Bytes as described
+use Rattle.description.specs.Bytes.{saidOf}
 use Rattle.description.specs.WellFormed as forms
 use Rattle.description.proofs.Meaning as meaning
 use Rattle.sdc.specs.Block as block
@@ -30,7 +31,7 @@ use Rattle.mdi_spots.specs.Table.{exactly, wholeBytes, sdcBits, sdciBits}
 use Rattle.mdi_check.specs.Conditions.{onTime}
 use Rattle.mdi.specs.Reading.{timeOf}
 use Rattle.mdi_write.specs.Packet.{Streams, entry, timeBytes}
-use Rattle.mdi_write.specs.Answers.{badTime, tooLarge, saidOf, agreed, Fits}
+use Rattle.mdi_write.specs.Answers.{badTime, tooLarge, agreed, Fits}
 use Rattle.mdi_write.specs.Rows.{wireSize}
 use Rattle.mdi_write.proofs.Values.{value-size}
 use Rattle.mdi_write.proofs.Numbers.{Small, small-of}

@@ -20,7 +20,8 @@ use Rattle.sdc.specs.Block as block
 use Rattle.record.specs.declared.Record.{Record}
 use Rattle.record.specs.declared.Time.{Time}
 use Rattle.mdi_write.specs.Packet.{Streams, packetOf}
-use Rattle.mdi_write.specs.Answers.{anyLong, badTime, tooLarge, saidOf, agreed, writeTests, writeNumber, writeFor, outFor, Fits}
+use Rattle.description.specs.Bytes.{saidOf}
+use Rattle.mdi_write.specs.Answers.{anyLong, badTime, tooLarge, agreed, writeTests, writeNumber, writeFor, outFor, Fits}
 use Rattle.mdi_write.specs.Rows.{sizeFor, Ready}
 use Rattle.mdi_write.proofs.Values.{few}
 use Rattle.mdi_write.proofs.Laying.{packet-length, not-long}

@@ -4,14 +4,14 @@ use mathlib.Core.Bool.{Bool, true, false, not, _||_, _&&_}
 use mathlib.Core.Path.{_≡_}
 use mathlib.Core.List.{List, [], _∷_}
 use lib.Dec.{eqb, ltb}
-use lib.ListN.{length, getD}
+use lib.ListN.{length}
 use Rattle.laws.specs.Limits.{longest}
 use Rattle.laws.specs.Pick.{pick}
 use Rattle.laws.specs.Refuse.{Test, test, refusedWith}
 use Rattle.laws.specs.Written.{written}
 use Rattle.clock.specs.Stamps.{fieldTests}
 use Rattle.description.specs.declared.Description.{Description}
-use Rattle.description.specs.Bytes.{noStream}
+use Rattle.description.specs.Bytes.{saidOf}
 use Rattle.description.specs.WellFormed as described
 use Rattle.fac.specs.Channel as fast
 use Rattle.sdc.specs.Block as block
@@ -34,10 +34,6 @@ badTime (Given t) = not (eqb (refusedWith (fieldTests t)) 0)
 unfoldable pub tooLarge : Record → Bool
 tooLarge r =
     fast.tooLarge (r .fac) || block.tooLarge (r .sdc) || described.tooLarge (r .description) || ltb 3 (r .robustness) || badTime (r .time)
-
--- both parts of the stream in a slot; 0 in a slot in which there is none
-abbrev pub saidOf : Description → ℕ → ℕ
-saidOf d k = getD (d .stream) k noStream .a + getD (d .stream) k noStream .b
 
 -- the streams are as long as the description says
 unfoldable pub agreed : Description → Streams → Bool

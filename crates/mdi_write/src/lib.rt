@@ -10,7 +10,7 @@ ghost use Rattle.laws.specs.Limits.{longest};
 ghost use Rattle.laws.specs.Refuse.{refusedWith};
 ghost use Rattle.laws.specs.Written.{written};
 ghost use Rattle.clock.specs.Stamps.{Within, stampBytes, fieldTests};
-ghost use Rattle.description.specs.Bytes.{valueOf};
+ghost use Rattle.description.specs.Bytes.{saidOf, valueOf};
 ghost use Rattle.description.specs.WellFormed as described;
 ghost use Rattle.description.specs.Answers.{unserved};
 ghost use Rattle.fac.specs.Channel as fast;
@@ -20,7 +20,7 @@ ghost use Rattle.joins.specs.Joined.{joined, kept};
 ghost use Rattle.mdi_spots.specs.Names as name;
 ghost use Rattle.mdi_write.specs.Packet.{four, timeBytes, headRows, streamRows, packetOf};
 ghost use Rattle.mdi_write.specs.Rows.{wire, wireSize, sizeFor, Ready};
-ghost use Rattle.mdi_write.specs.Answers.{anyLong, badTime, tooLarge, saidOf, writeTests, writeFor, outFor};
+ghost use Rattle.mdi_write.specs.Answers.{anyLong, badTime, tooLarge, writeTests, writeFor, outFor};
 
 // The number, and the bytes written: 0 where it is refused.
 pub struct Wrote {
