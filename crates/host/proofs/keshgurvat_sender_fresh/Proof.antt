@@ -10,7 +10,7 @@ fresh-requires c κs = search needs
 
 returns : tie.Need-returns
 unfolding fresh
-returns c = rw (c .fresh .ensures)
+returns c = cc
 
 pub keshgurvat-sender-fresh-spec : {M : Type 1} → statement M
 keshgurvat-sender-fresh-spec = tie.close (tie.spec fresh-requires returns)
