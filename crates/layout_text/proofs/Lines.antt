@@ -12,7 +12,8 @@ use Rattle.copy.specs.Copy.{Puts}
 use Rattle.copy.proofs.Pieces.{puts-none, puts-then, puts-same}
 use Rattle.places.specs.declared.Part.{Part}
 use Rattle.places.specs.Parts.{noPart}
-use Rattle.layout_text.specs.Text.{decimal, placeText, lineOf, partLines}
+use Rattle.line_text.specs.Decimal.{decimal}
+use Rattle.layout_text.specs.Text.{placeText, lineOf, partLines}
 
 -- the line of a part with no byte, and of one with some
 pub line-none : (name : List ℕ) (x : Part) (d : List ℕ) (at : ℕ) → x .len ≡ 0 → Puts d at (lineOf name x) d at

@@ -22,7 +22,8 @@ use Rattle.description.specs.WellFormed.{illFormed}
 use Rattle.description.specs.Answers.{valueLength, handed}
 use Rattle.places.specs.Parts.{usedBy, partsOf, paddingOf, badCapacity, layoutTests, layoutFor}
 use Rattle.description.proofs.RoundTrips.{small}
-use Rattle.layout_text.specs.Text.{ascii, numberLine, linesOf, capacityIn, describedIn, testsFor, numberFor, textOf}
+use Rattle.line_text.specs.Decimal.{ascii, numberLine}
+use Rattle.layout_text.specs.Text.{linesOf, capacityIn, describedIn, testsFor, numberFor, textOf}
 
 -- what stands behind the first two bytes
 pub no-value : (s : List ℕ) → length s < 2 → [] ≡ drop 2 s

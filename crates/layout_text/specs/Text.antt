@@ -1,7 +1,5 @@
 -- What the program `layout` prints (01, "The description and the frame it cuts"). Assumes nothing.
-use Prim.Native.Char.{code}
-use Prim.Native.Nat.{ℕ, zero, suc, _+_, _/_, _%_}
-use Prim.Native.String as Text
+use Prim.Native.Nat.{ℕ, suc}
 use mathlib.Core.Bool.{not}
 use mathlib.Core.List.{List, [], _∷_, _++_}
 use lib.Dec.{ltb, eqb}
@@ -10,25 +8,13 @@ use Rattle.laws.specs.Big.{numberAt}
 use Rattle.laws.specs.Limits.{longest}
 use Rattle.laws.specs.Pick.{pick}
 use Rattle.laws.specs.Refuse.{Test, test, refusedWith}
+use Rattle.line_text.specs.Decimal.{ascii, decimal, numberLine}
 use Rattle.description.specs.declared.Description.{Description}
 use Rattle.places.specs.declared.Part.{Part}
 use Rattle.description.specs.Bytes.{describedBy}
 use Rattle.description.specs.WellFormed.{illFormed}
 use Rattle.description.specs.Answers.{valueLength}
 use Rattle.places.specs.Parts.{usedBy, partsOf, paddingOf, badCapacity}
-
--- a text as bytes
-abbrev pub ascii : Text.String → List ℕ
-ascii Text.[] = []
-ascii (Text._∷_ c s) = code c ∷ ascii s
-
--- a number in decimal: its last digit stands behind those of its tenth. The first argument bounds the steps: any number above n is enough
-unfoldable pub digitsOf : ℕ → ℕ → List ℕ
-digitsOf zero n = []
-digitsOf (suc k) n = pick (ltb n 10) ((48 + n) ∷ []) (digitsOf k (n / 10) ++ ((48 + n % 10) ∷ []))
-
-unfoldable pub decimal : ℕ → List ℕ
-decimal n = digitsOf (suc n) n
 
 -- where a part stands, to the end of the line
 unfoldable pub placeText : Part → List ℕ
@@ -51,10 +37,6 @@ partB = ascii "part B stream "
 
 abbrev pub padding : List ℕ
 padding = ascii "padding"
-
--- a word, a number and the end of the line
-abbrev pub numberLine : List ℕ → ℕ → List ℕ
-numberLine word n = word ++ (decimal n ++ ascii "\n")
 
 -- the lines of eight parts, four of A and four of B, and of the padding
 unfoldable pub linesOf : ℕ → List Part → Part → List ℕ

@@ -8,34 +8,16 @@ ghost use lib.ListN.{length, take, drop};
 ghost use Rattle.laws.specs.Written.{written};
 ghost use Rattle.io.specs.Counts.{Counts};
 ghost use Rattle.copy.specs.Copy.{Puts};
-ghost use Rattle.layout_text.specs.Text.{ascii, decimal, placeText, lineOf, partLines, padding, linesOf, capacityIn, numberFor, textOf};
-
-fn put(src: &[u8], out: &mut [u8], at: usize) -> usize
-    requires { ⌜ at + length (now src) ≤ length (now out) ⌝ }
-    ensures { λ r. ⌜ (r ≡ at + length (now (src .entry))) × Puts (now (out .entry)) at (now (src .entry)) (now (out .exit)) r ⌝ }
-{
-    copy::put(src, out, at)
-}
-
-fn put_number(n: usize, out: &mut [u8], at: usize) -> usize
-    requires { ⌜ at + 20 ≤ length (now out) ⌝ }
-    ensures { λ r. ⌜ (r ≤ at + 20) × Puts (now (out .entry)) at (decimal n) (now (out .exit)) r ⌝ }
-{
-    let mut digits = [0u8; 20];
-    let k = io::decimal(n as u64, &mut digits);
-    put(&digits[..k], out, at)
-}
+ghost use Rattle.line_text.specs.Decimal.{decimal};
+ghost use Rattle.layout_text.specs.Text.{placeText, lineOf, partLines, padding, linesOf, capacityIn, numberFor, textOf};
 
 // " at N length M" and the end of the line.
 fn put_place(x: Part, out: &mut [u8], at: usize) -> usize
     requires { ⌜ at + 53 ≤ length (now out) ⌝ }
     ensures { λ r. ⌜ (r ≤ at + 53) × Puts (now (out .entry)) at (placeText x) (now (out .exit)) r ⌝ }
 {
-    let a = put(b" at ", out, at);
-    let b = put_number(x.at, out, a);
-    let c = put(b" length ", out, b);
-    let d = put_number(x.len, out, c);
-    put(b"\n", out, d)
+    let a = line_text::named(b" at ", x.at as u64, out, at);
+    line_text::line(b" length ", x.len as u64, out, a)
 }
 
 // The line of stream i's part; none where it has no byte.
@@ -46,9 +28,8 @@ fn put_part(name: &[u8; 14], i: usize, x: Part, out: &mut [u8], at: usize) -> us
     if x.len == 0 {
         return at;
     }
-    let a = put(name, out, at);
-    let b = put_number(i, out, a);
-    put_place(x, out, b)
+    let a = line_text::named(name, i as u64, out, at);
+    put_place(x, out, a)
 }
 
 // The lines of four parts, the first at index from.
@@ -73,25 +54,15 @@ fn put_padding(x: Part, out: &mut [u8], at: usize) -> usize
     if x.len == 0 {
         return at;
     }
-    let a = put(b"padding", out, at);
+    let a = line_text::word(b"padding", out, at);
     put_place(x, out, a)
-}
-
-// A word, a number and the end of the line.
-fn put_line(name: &[u8], n: usize, out: &mut [u8]) -> usize
-    requires { ⌜ length (now name) + 21 ≤ length (now out) ⌝ }
-    ensures { λ r. ⌜ (r ≤ length (now (name .entry)) + 21) × Puts (now (out .entry)) 0 (now (name .entry) ++ (decimal n ++ ascii "\n")) (now (out .exit)) r ⌝ }
-{
-    let a = put(name, out, 0);
-    let b = put_number(n, out, a);
-    put(b"\n", out, b)
 }
 
 fn put_layout(capacity: usize, p: Places, out: &mut [u8]) -> usize
     requires { ⌜ 1024 ≤ length (now out) ⌝ }
     ensures { λ r. ⌜ (r ≤ 1024) × Puts (now (out .entry)) 0 (linesOf capacity (p .part) (p .padding)) (now (out .exit)) r ⌝ }
 {
-    let a = put_line(b"capacity ", capacity, out);
+    let a = line_text::line(b"capacity ", capacity as u64, out, 0);
     let b = put_parts(b"part A stream ", p, 0, out, a);
     let c = put_parts(b"part B stream ", p, 4, out, b);
     let x = p.padding;
@@ -150,7 +121,7 @@ pub fn text(input: &[u8], out: &mut [u8; 1024]) -> usize
 {
     let number = number_of(input);
     if number != 0 {
-        return put_line(b"refused ", number as usize, out);
+        return line_text::line(b"refused ", number as u64, out, 0);
     }
     let capacity = capacity_in(input);
     let d = description::of_value(value_in(input));

@@ -2,9 +2,11 @@
 use native.Mathlib.Omega.{arith}
 use mathlib.Core.Path.{ap₂}
 use Prim.Native.Nat.{ℕ, _+_}
-use Rattle.copy.proofs.Pieces.{puts-then, puts-same}
-use Rattle.layout_text.specs.Text.{decimal}
+use mathlib.Core.List.{_++_}
+use Rattle.line_text.specs.Decimal.{ascii, decimal}
 use Rattle.inspect_text.proofs.Ways.{length-none, length-some}
+use Rattle.copy.proofs.Pieces.{puts-same}
+use Rattle.line_text.proofs.Room.{fit}
 use borrow.Author.Needs.{needs}
 use Rattle.inspect_text.proofs.put_length.Statement.{statement}
 use Rattle.inspect_text.proofs.put_length.Tie as tie
@@ -12,11 +14,8 @@ use Rattle.inspect_text.proofs.put_length.Tie as tie
 returns : tie.Need-returns
 returns c = (omega arith, length-none _ _ _ _ _ (c .if1 .taken))
 
-slice-aggregate-put : tie.Need-slice-aggregate-put
-slice-aggregate-put c = search needs
-
-put-requires : tie.Need-put-requires
-put-requires c κs = search needs
+slice-aggregate-named : tie.Need-slice-aggregate-named
+slice-aggregate-named c = search needs
 
 wide-requires : tie.Need-wide-requires
 wide-requires c κs = search needs
@@ -24,30 +23,29 @@ wide-requires c κs = search needs
 wide-requires-2 : tie.Need-wide-requires-2
 wide-requires-2 c κs = search needs
 
-add-put-number : tie.Need-add-put-number
-add-put-number c = search needs
+add-named : tie.Need-add-named
+add-named c = search needs
 
-put-number-requires : tie.Need-put-number-requires
-put-number-requires c κs = search needs
+named-requires : tie.Need-named-requires
+named-requires c κs = search needs
 
 same-length : tie.Need-same-length
 same-length c = search needs
 
 returns-2 : tie.Need-returns-2
-returns-2 c = let p0 = c .before .before .before .before .before .before .before .before .put .ensures .1 in
-    let p1 = c .before .before .put-number .ensures .1 in
-    (omega arith, length-some _ _ _ (c .before .before .before .before .before .before .before .before .before .before .before .if1 .left) (puts-then (omega arith) p0 (puts-same (ap₂ (λ (u v : ℕ). decimal (u + v)) (c .before .before .before .before .before .wide .ensures .0) (c .before .before .before .before .wide2 .ensures .0)) p1)))
+returns-2 c =
+    let p0 = puts-same (ap₂ (λ (u v : ℕ). ascii " " ++ decimal (u + v)) (c .before .before .before .before .before .wide .ensures .0) (c .before .before .before .before .wide2 .ensures .0)) (fit (omega arith) (c .before .before .named .ensures .1)) in
+    (omega arith, length-some _ _ _ (c .before .before .before .before .before .before .before .if1 .left) p0)
 
 pub put-length-spec : {M : Type 1} → statement M
 put-length-spec =
     tie.close
     (tie.spec
     returns
-    slice-aggregate-put
-    put-requires
+    slice-aggregate-named
     wide-requires
     wide-requires-2
-    add-put-number
-    put-number-requires
+    add-named
+    named-requires
     same-length
     returns-2)

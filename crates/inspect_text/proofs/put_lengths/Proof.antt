@@ -1,8 +1,8 @@
 -- `inspect_text::put_lengths` meets its contract. Assumes nothing.
 use native.Mathlib.Omega.{arith}
-use borrow.Author.Needs.{needs}
-use Rattle.copy.proofs.Pieces.{puts-then}
 use Rattle.inspect_text.specs.Inspect.{lengthsText}
+use Rattle.copy.proofs.Pieces.{puts-then}
+use borrow.Author.Needs.{needs}
 use Rattle.inspect_text.proofs.put_lengths.Statement.{statement}
 use Rattle.inspect_text.proofs.put_lengths.Tie as tie
 
@@ -35,11 +35,12 @@ same-length c = search needs
 
 returns : tie.Need-returns
 unfolding lengthsText
-returns c = let p0 = c .before .before .before .before .before .before .before .before .before .before .before .before .before .before .put-length .ensures .1 in
+returns c =
+    let p0 = c .before .before .before .before .before .before .before .before .before .before .before .before .before .before .put-length .ensures .1 in
     let p1 = c .before .before .before .before .before .before .before .before .before .before .put-length2 .ensures .1 in
     let p2 = c .before .before .before .before .before .before .put-length3 .ensures .1 in
     let p3 = c .before .before .put-length4 .ensures .1 in
-    (omega arith, (puts-then (omega arith) p0 (puts-then (omega arith) p1 (puts-then (omega arith) p2 p3))))
+    (omega arith, puts-then (omega arith) p0 (puts-then (omega arith) p1 (puts-then (omega arith) p2 p3)))
 
 pub put-lengths-spec : {M : Type 1} → statement M
 put-lengths-spec =

@@ -1,16 +1,17 @@
 -- `layout_text::put_layout` meets its contract. Assumes nothing.
 use native.Mathlib.Omega.{arith}
-use borrow.Author.Needs.{needs}
-use Rattle.copy.proofs.Pieces.{puts-then}
 use Rattle.layout_text.specs.Text.{linesOf}
+use Rattle.copy.proofs.Pieces.{puts-then}
+use Rattle.line_text.proofs.Room.{fit}
+use borrow.Author.Needs.{needs}
 use Rattle.layout_text.proofs.put_layout.Statement.{statement}
 use Rattle.layout_text.proofs.put_layout.Tie as tie
 
-slice-aggregate-put-line : tie.Need-slice-aggregate-put-line
-slice-aggregate-put-line c = search needs
+slice-aggregate-line : tie.Need-slice-aggregate-line
+slice-aggregate-line c = search needs
 
-put-line-requires : tie.Need-put-line-requires
-put-line-requires c κs = search needs
+line-requires : tie.Need-line-requires
+line-requires c κs = search needs
 
 put-parts-requires : tie.Need-put-parts-requires
 put-parts-requires c κs = search needs
@@ -26,17 +27,19 @@ same-length c = search needs
 
 returns : tie.Need-returns
 unfolding linesOf
-returns c = let p = c .before .before .before .before .before .before .before .before .before .before .before .before .before .before .before .before .before .put-line .ensures .1 in
-    let q = c .before .before .before .before .before .before .before .before .before .before .before .before .put-parts .ensures .1 in
-    let r = c .before .before .before .before .before .before .before .put-parts2 .ensures .1 in
-    (omega arith, puts-then (omega arith) p (puts-then (omega arith) q (puts-then (omega arith) r (c .before .before .put-padding .ensures .1))))
+returns c =
+    let p0 = fit (omega arith) (c .before .before .before .before .before .before .before .before .before .before .before .before .before .before .before .before .before .line .ensures .1) in
+    let p1 = c .before .before .before .before .before .before .before .before .before .before .before .before .put-parts .ensures .1 in
+    let p2 = c .before .before .before .before .before .before .before .put-parts2 .ensures .1 in
+    let p3 = c .before .before .put-padding .ensures .1 in
+    (omega arith, puts-then (omega arith) p0 (puts-then (omega arith) p1 (puts-then (omega arith) p2 p3)))
 
 pub put-layout-spec : {M : Type 1} → statement M
 put-layout-spec =
     tie.close
     (tie.spec
-    slice-aggregate-put-line
-    put-line-requires
+    slice-aggregate-line
+    line-requires
     put-parts-requires
     put-parts-requires-2
     put-padding-requires

@@ -1,19 +1,20 @@
 -- `layout_text::put_padding` meets its contract. Assumes nothing.
 use native.Mathlib.Omega.{arith}
-use borrow.Author.Needs.{needs}
-use Rattle.copy.proofs.Pieces.{puts-then}
 use Rattle.layout_text.proofs.Lines.{line-none, line-some}
+use Rattle.copy.proofs.Pieces.{puts-then}
+use Rattle.line_text.proofs.Room.{fit}
+use borrow.Author.Needs.{needs}
 use Rattle.layout_text.proofs.put_padding.Statement.{statement}
 use Rattle.layout_text.proofs.put_padding.Tie as tie
 
 returns : tie.Need-returns
 returns c = (omega arith, line-none _ _ _ _ (c .if1 .taken))
 
-slice-aggregate-put : tie.Need-slice-aggregate-put
-slice-aggregate-put c = search needs
+slice-aggregate-word : tie.Need-slice-aggregate-word
+slice-aggregate-word c = search needs
 
-put-requires : tie.Need-put-requires
-put-requires c κs = search needs
+word-requires : tie.Need-word-requires
+word-requires c κs = search needs
 
 put-place-requires : tie.Need-put-place-requires
 put-place-requires c κs = search needs
@@ -22,11 +23,12 @@ same-length : tie.Need-same-length
 same-length c = search needs
 
 returns-2 : tie.Need-returns-2
-returns-2 c = let k = c .before .before .before .before .before .before in
-    let p = k .put .ensures .1 in
-    (omega arith, line-some _ _ _ _ _ _ (k .before .before .before .if1 .left) (puts-then (omega arith) p (c .before .before .put-place .ensures .1)))
+returns-2 c =
+    let p0 = fit (omega arith) (c .before .before .before .before .before .before .word .ensures .1) in
+    let p1 = c .before .before .put-place .ensures .1 in
+    (omega arith, line-some _ _ _ _ _ _ (c .before .before .before .before .before .before .before .before .before .if1 .left) (puts-then (omega arith) p0 p1))
 
 pub put-padding-spec : {M : Type 1} → statement M
 put-padding-spec =
     tie.close
-    (tie.spec returns slice-aggregate-put put-requires put-place-requires same-length returns-2)
+    (tie.spec returns slice-aggregate-word word-requires put-place-requires same-length returns-2)

@@ -1,19 +1,17 @@
 -- `layout_text::put_part` meets its contract. Assumes nothing.
 use native.Mathlib.Omega.{arith}
-use borrow.Author.Needs.{needs}
-use Rattle.copy.proofs.Pieces.{puts-then}
 use Rattle.layout_text.proofs.Lines.{line-none, line-some}
+use Rattle.copy.proofs.Pieces.{puts-then}
+use Rattle.line_text.proofs.Room.{fit}
+use borrow.Author.Needs.{needs}
 use Rattle.layout_text.proofs.put_part.Statement.{statement}
 use Rattle.layout_text.proofs.put_part.Tie as tie
 
 returns : tie.Need-returns
 returns c = (omega arith, line-none _ _ _ _ (c .if1 .taken))
 
-put-requires : tie.Need-put-requires
-put-requires c κs = search needs
-
-put-number-requires : tie.Need-put-number-requires
-put-number-requires c κs = search needs
+named-requires : tie.Need-named-requires
+named-requires c κs = search needs
 
 put-place-requires : tie.Need-put-place-requires
 put-place-requires c κs = search needs
@@ -22,12 +20,11 @@ same-length : tie.Need-same-length
 same-length c = search needs
 
 returns-2 : tie.Need-returns-2
-returns-2 c = let k = c .before .before .before .before .before .before .before .before .before .before in
-    let p = k .put .ensures .1 in
-    let q = c .before .before .before .before .before .before .put-number .ensures .1 in
-    (omega arith, line-some _ _ _ _ _ _ (k .before .before .before .if1 .left) (puts-then (omega arith) (puts-then (omega arith) p q) (c .before .before .put-place .ensures .1)))
+returns-2 c =
+    let p0 = fit (omega arith) (c .before .before .before .before .before .before .named .ensures .1) in
+    let p1 = c .before .before .put-place .ensures .1 in
+    (omega arith, line-some _ _ _ _ _ _ (c .before .before .before .before .before .before .before .before .before .if1 .left) (puts-then (omega arith) p0 p1))
 
 pub put-part-spec : {M : Type 1} → statement M
 put-part-spec =
-    tie.close
-    (tie.spec returns put-requires put-number-requires put-place-requires same-length returns-2)
+    tie.close (tie.spec returns named-requires put-place-requires same-length returns-2)
