@@ -15,7 +15,7 @@ use Rattle.record.specs.declared.Record.{Record}
 use Rattle.tally.specs.declared.Tally.{Tally}
 use Rattle.tally.specs.Tally.{noTally, countedFor, placeFor}
 use Rattle.record.specs.declared.Time.{Time}
-use Rattle.line_text.specs.Decimal.{decimal, numberLine}
+use Rattle.line_text.specs.Decimal.{decimal, numberLine, pairLine}
 use Rattle.line_text.specs.Line.{Placed}
 use Rattle.date_text.specs.Date.{millisText, dateText}
 use Rattle.stamp_text.specs.Stamp.{since, timeText}
@@ -38,7 +38,7 @@ placed-once : (room at bound : ℕ) (text before : List ℕ) → (x y : ℕ × L
     → (y .0 ≤ bound) × Placed room before at text (y .1) (y .0) → x ≡ y
 placed-once room at bound text before x y p q = ap₂ (λ n s. (n, s)) (p .1 .end ∙ sym (q .1 .end)) (p .1 .buffer ∙ sym (q .1 .buffer))
 
--- `line_text::word`, `named` and `line`; an input is what they are of, the buffer before the call and the offset
+-- `line_text::word`, `named`, `line` and `pair`; an input is what they are of, the buffer before the call and the offset
 pub word-put : Settles (λ (i : List ℕ × List ℕ × ℕ) (o : ℕ × List ℕ). (o .0 ≤ i .2 + length (i .0)) × Placed (length (i .0)) (i .1) (i .2) (i .0) (o .1) (o .0))
 word-put i x y p q = placed-once (length (i .0)) (i .2) (i .2 + length (i .0)) (i .0) (i .1) x y p q
 
@@ -49,6 +49,11 @@ named-put i x y p q = placed-once (length (i .0) + 20) (i .3) (i .3 + (length (i
 pub number-line : Settles (λ (i : List ℕ × ℕ × List ℕ × ℕ) (o : ℕ × List ℕ).
     (o .0 ≤ i .3 + (length (i .0) + 21)) × Placed (length (i .0) + 21) (i .2) (i .3) (numberLine (i .0) (i .1)) (o .1) (o .0))
 number-line i x y p q = placed-once (length (i .0) + 21) (i .3) (i .3 + (length (i .0) + 21)) (numberLine (i .0) (i .1)) (i .2) x y p q
+
+pub pair-line : Settles (λ (i : List ℕ × ℕ × List ℕ × ℕ × List ℕ × ℕ) (o : ℕ × List ℕ).
+    (o .0 ≤ i .5 + (length (i .0) + length (i .2) + 41)) × Placed (length (i .0) + length (i .2) + 41) (i .4) (i .5) (pairLine (i .0) (i .1) (i .2) (i .3)) (o .1) (o .0))
+pair-line i x y p q =
+    placed-once (length (i .0) + length (i .2) + 41) (i .5) (i .5 + (length (i .0) + length (i .2) + 41)) (pairLine (i .0) (i .1) (i .2) (i .3)) (i .4) x y p q
 
 -- `date_text::millis` and `date`
 pub millis-put : Settles (λ (i : ℕ × List ℕ × ℕ) (o : ℕ × List ℕ). (o .0 ≤ i .2 + 4) × Placed 4 (i .1) (i .2) (millisText (i .0)) (o .1) (o .0))

@@ -81,14 +81,6 @@ fn put_head(n: u64, offset: u64, out: &mut [u8], at: usize) -> usize
     line_text::named(b" at ", offset, out, a)
 }
 
-fn put_refused(number: u64, place: u64, out: &mut [u8], at: usize) -> usize
-    requires { ⌜ at + 53 ≤ length (now out) ⌝ }
-    ensures { λ r. ⌜ (r ≤ at + 53) × Puts (now (out .entry)) at (refusedText number place) (now (out .exit)) r ⌝ }
-{
-    let a = line_text::named(b"refused ", number, out, at);
-    line_text::line(b" at ", place, out, a)
-}
-
 // The line of packet n, which stands at an offset of the file, from what reading it gave.
 pub fn line(n: u64, offset: u64, x: Answer, out: &mut [u8; 1024]) -> usize
     ensures { λ r. ⌜ Line n offset x (now (out .entry)) (now (out .exit)) r ⌝ }
@@ -99,7 +91,14 @@ pub fn line(n: u64, offset: u64, x: Answer, out: &mut [u8; 1024]) -> usize
     let a = put_head(n, offset, out, 0);
     if x.number != 0 {
         let b = line_text::word(b" ", out, a);
-        return put_refused(x.number as u64, x.place as u64, out, b);
+        return line_text::pair(
+            b"refused ",
+            x.number as u64,
+            b" at ",
+            x.place as u64,
+            out,
+            b,
+        );
     }
     put_content(c, d, out, a)
 }
@@ -108,5 +107,6 @@ pub fn line(n: u64, offset: u64, x: Answer, out: &mut [u8; 1024]) -> usize
 pub fn refusal(number: u32, place: u64, out: &mut [u8; 1024]) -> usize
     ensures { λ r. ⌜ Puts (now (out .entry)) 0 (refusedText number place) (now (out .exit)) r ⌝ }
 {
-    put_refused(number as u64, place, out, 0)
+    let k = number as u64;
+    line_text::pair(b"refused ", k, b" at ", place, out, 0)
 }

@@ -9,16 +9,7 @@ ghost use Rattle.laws.specs.Written.{written};
 ghost use Rattle.io.specs.Counts.{Counts};
 ghost use Rattle.copy.specs.Copy.{Puts};
 ghost use Rattle.line_text.specs.Decimal.{decimal};
-ghost use Rattle.layout_text.specs.Text.{placeText, lineOf, partLines, padding, linesOf, capacityIn, numberFor, textOf};
-
-// " at N length M" and the end of the line.
-fn put_place(x: Part, out: &mut [u8], at: usize) -> usize
-    requires { ⌜ at + 53 ≤ length (now out) ⌝ }
-    ensures { λ r. ⌜ (r ≤ at + 53) × Puts (now (out .entry)) at (placeText x) (now (out .exit)) r ⌝ }
-{
-    let a = line_text::named(b" at ", x.at as u64, out, at);
-    line_text::line(b" length ", x.len as u64, out, a)
-}
+ghost use Rattle.layout_text.specs.Text.{lineOf, partLines, padding, linesOf, capacityIn, numberFor, textOf};
 
 // The line of stream i's part; none where it has no byte.
 fn put_part(name: &[u8; 14], i: usize, x: Part, out: &mut [u8], at: usize) -> usize
@@ -29,7 +20,7 @@ fn put_part(name: &[u8; 14], i: usize, x: Part, out: &mut [u8], at: usize) -> us
         return at;
     }
     let a = line_text::named(name, i as u64, out, at);
-    put_place(x, out, a)
+    line_text::pair(b" at ", x.at as u64, b" length ", x.len as u64, out, a)
 }
 
 // The lines of four parts, the first at index from.
@@ -55,7 +46,7 @@ fn put_padding(x: Part, out: &mut [u8], at: usize) -> usize
         return at;
     }
     let a = line_text::word(b"padding", out, at);
-    put_place(x, out, a)
+    line_text::pair(b" at ", x.at as u64, b" length ", x.len as u64, out, a)
 }
 
 fn put_layout(capacity: usize, p: Places, out: &mut [u8]) -> usize

@@ -22,3 +22,7 @@ decimal n = digitsOf (suc n) n
 -- a word, a number and the end of the line
 abbrev pub numberLine : List ℕ → ℕ → List ℕ
 numberLine word n = (word ++ decimal n) ++ ascii "\n"
+
+-- a word and a number, twice, and the end of the line
+abbrev pub pairLine : List ℕ → ℕ → List ℕ → ℕ → List ℕ
+pairLine first n second m = (first ++ decimal n) ++ numberLine second m

@@ -4,7 +4,7 @@
 ghost use mathlib.Core.List.{_++_};
 ghost use Prim.Native.Nat.{_+_, _≤_};
 ghost use lib.ListN.{length};
-ghost use Rattle.line_text.specs.Decimal.{decimal, numberLine};
+ghost use Rattle.line_text.specs.Decimal.{decimal, numberLine, pairLine};
 ghost use Rattle.line_text.specs.Line.{Placed};
 
 // A word, at the offset; the answer is the offset behind it.
@@ -51,4 +51,25 @@ pub fn line(text: &[u8], n: u64, out: &mut [u8], at: usize) -> usize
     }
     let a = named(text, n, out, at);
     word(b"\n", out, a)
+}
+
+// A word and a number, twice, and the end of the line.
+pub fn pair(first: &[u8], n: u64, second: &[u8], m: u64, out: &mut [u8], at: usize) -> usize
+    ensures { λ r. ⌜ (r ≤ at + (length (now (first .entry)) + length (now (second .entry)) + 41)) × Placed (length (now (first .entry)) + length (now (second .entry)) + 41) (now (out .entry)) at (pairLine (now (first .entry)) n (now (second .entry)) m) (now (out .exit)) r ⌝ }
+{
+    if out.len() < at {
+        return at;
+    }
+    let room = out.len() - at;
+    if room < 41 {
+        return at;
+    }
+    if room - 41 < first.len() {
+        return at;
+    }
+    if room - 41 - first.len() < second.len() {
+        return at;
+    }
+    let a = named(first, n, out, at);
+    line(second, m, out, a)
 }

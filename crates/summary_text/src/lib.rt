@@ -16,8 +16,7 @@ fn put_times(number: u64, times: u64, out: &mut [u8], at: usize) -> usize
     if times == 0 {
         return at;
     }
-    let a = line_text::named(b"refused ", number, out, at);
-    line_text::line(b": ", times, out, a)
+    line_text::pair(b"refused ", number, b": ", times, out, at)
 }
 
 // The numbers 1 to 11.

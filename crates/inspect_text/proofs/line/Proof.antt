@@ -1,5 +1,6 @@
 -- `inspect_text::line` meets its contract. Assumes nothing.
 use native.Mathlib.Omega.{arith}
+use Rattle.inspect_text.specs.Inspect.{refusedText}
 use Rattle.stamp_text.proofs.Ways.{dated-by}
 use Rattle.inspect_text.proofs.Ways.{line-refused, line-read}
 use Rattle.copy.proofs.Pieces.{puts-then}
@@ -23,18 +24,25 @@ slice-aggregate-word c = search needs
 word-requires : tie.Need-word-requires
 word-requires c κs = search needs
 
-cast-put-refused : tie.Need-cast-put-refused
-cast-put-refused c = search needs
+slice-aggregate-pair : tie.Need-slice-aggregate-pair
+slice-aggregate-pair c = search needs
 
-put-refused-requires : tie.Need-put-refused-requires
-put-refused-requires c κs = search needs
+cast-pair : tie.Need-cast-pair
+cast-pair c = search needs
+
+slice-aggregate-pair-2 : tie.Need-slice-aggregate-pair-2
+slice-aggregate-pair-2 c = search needs
+
+pair-requires : tie.Need-pair-requires
+pair-requires c κs = search needs
 
 returns : tie.Need-returns
+unfolding refusedText
 returns c =
-    let p0 = c .before .before .before .before .before .before .before .before .put-head .ensures .1 in
-    let p1 = fit (omega arith) (c .before .before .before .word .ensures .1) in
-    let p2 = c .put-refused .ensures .1 in
-    record { date = _; dated = dated-by _ _ _ (c .before .before .before .before .before .before .before .before .before .before .before .since .ensures) (c .before .before .before .before .before .before .before .before .before .before .utc .ensures); text = line-refused _ _ _ _ (c .before .before .before .before .before .before .if1 .taken) (puts-then (omega arith) p0 (puts-then (omega arith) p1 p2)) }
+    let p0 = c .before .before .before .before .before .before .before .before .before .before .put-head .ensures .1 in
+    let p1 = fit (omega arith) (c .before .before .before .before .before .word .ensures .1) in
+    let p2 = fit (omega arith) (c .pair .ensures .1) in
+    record { date = _; dated = dated-by _ _ _ (c .before .before .before .before .before .before .before .before .before .before .before .before .before .since .ensures) (c .before .before .before .before .before .before .before .before .before .before .before .before .utc .ensures); text = line-refused _ _ _ _ (c .before .before .before .before .before .before .before .before .if1 .taken) (puts-then (omega arith) p0 (puts-then (omega arith) p1 p2)) }
 
 put-content-requires : tie.Need-put-content-requires
 put-content-requires c κs = search needs
@@ -54,8 +62,10 @@ line-spec =
     put-head-requires
     slice-aggregate-word
     word-requires
-    cast-put-refused
-    put-refused-requires
+    slice-aggregate-pair
+    cast-pair
+    slice-aggregate-pair-2
+    pair-requires
     returns
     put-content-requires
     returns-2)
