@@ -1,6 +1,7 @@
 #!/bin/sh
 # test.sh COUNT [SEED]: the test command. Ends in exactly one last line 'N passed, M failed'; status 0 only where M is 0.
-# N counts rt's passes, the layout check, the reading of the must-fail logs, each case of the fresh set, and each comparison of the C host.
+# N counts rt's passes, the layout check, the reading of the must-fail logs, the tests of the second program, each case of the fresh set,
+# and each comparison of the C host. Before that line stands where the time went; no limit in it fails the test.
 set -u
 ROOT=$(cd "$(dirname "$0")/.." && pwd -P)
 cd "$ROOT" || exit 2
@@ -9,6 +10,7 @@ seed=${2:-}
 passed=0 failed=0
 room=$(mktemp -d) || exit 2
 trap 'rm -rf "$room"' EXIT
+: >"$room/times"
 
 # a tool that is missing is a failure with its own sentence
 finish() {
@@ -22,8 +24,10 @@ missing=$( (. "$ROOT/scripts/kit.sh" && need cargo "to build the second program 
     finish
 }
 . "$ROOT/scripts/kit.sh"
+. "$ROOT/scripts/progress.sh"
 
-# add FILE: adds the counts of a report whose last line is 'N passed, M failed'; a report without one is a failure
+# add FILE STATUS: adds the counts of a report whose last line is 'N passed, M failed'; a report without one, or of a part that ended
+# otherwise than its counts say, is a failure
 add() {
     line=$(tail -n 1 "$1")
     n=${line%% passed, *}
@@ -41,50 +45,52 @@ add() {
         return
     fi
     passed=$((passed + n)) failed=$((failed + m))
+    [ "$2" -eq 0 ] || [ "$m" -gt 0 ] || {
+        echo "test: a part ended with status $2"
+        failed=$((failed + 1))
+    }
 }
 
-# part NAME STATUS: one check that passes or fails as a whole
-part() {
-    if [ "$2" -eq 0 ]; then
+# whole TITLE COMMAND..: one check that passes or fails as a whole
+whole() {
+    echo "== $1"
+    shift
+    if "$@"; then
         passed=$((passed + 1))
-        echo "$1: passed"
+        echo "$*: passed"
     else
         failed=$((failed + 1))
-        echo "$1: FAILED"
+        echo "$*: FAILED"
     fi
 }
 
 # only the last line of all may look like the verdict
 quiet() { sed -e 's/^\([0-9][0-9]* passed, [0-9][0-9]* failed\)$/(\1)/'; }
 
-echo "== layout of the sources"
-rt fmt --check
-part "rt fmt --check" $?
-
-echo "== proofs, must-fail edits, programs"
-{
-    rt ci 2>&1
-    echo $? >"$room/ci.status"
-} | tee "$room/ci.out" | quiet
-add "$room/ci.out"
-[ "$(cat "$room/ci.status")" -eq 0 ] || {
-    echo "test: rt ci ended with status $(cat "$room/ci.status")"
-    failed=$((failed + 1))
+# counted TITLE COMMAND..: a part whose last line has its counts
+counted() {
+    title=$1
+    shift
+    echo "== $title"
+    since=$(date +%s)
+    {
+        "$@" 2>&1
+        echo $? >"$room/status"
+    } | tee "$room/report" | quiet
+    add "$room/report" "$(cat "$room/status")"
+    echo "$(($(date +%s) - since)) $title" >>"$room/times"
 }
 
-echo "== what the refused edits show"
-sh scripts/edits.sh
-part "must-fail logs" $?
-
-echo "== a fresh set of cases, compared with the second program"
 [ -n "$seed" ] || seed=$(od -An -N4 -tu4 /dev/urandom | tr -d ' ')
-echo "seed $seed (repeat with: make test SEED=$seed COUNT=$count)"
-sh scripts/fresh.sh "$count" "$seed" >"$room/fresh.out" 2>&1
-quiet <"$room/fresh.out"
-add "$room/fresh.out"
+whole "layout of the sources" rt fmt --check
+counted "proofs, must-fail edits, programs" sh scripts/proofs.sh "$room"
+whole "what the refused edits show" sh scripts/edits.sh
+counted "the second program's own tests" sh scripts/unit.sh
+echo "The seed of the cases is $seed (repeat with: make test SEED=$seed COUNT=$count)."
+counted "fresh cases, compared with the second program" sh scripts/fresh.sh "$count" "$seed"
+counted "the C host" sh scripts/host.sh "$seed"
 
-echo "== the C host"
-sh scripts/host.sh "$seed" >"$room/host.out" 2>&1
-quiet <"$room/host.out"
-add "$room/host.out"
+echo "== where the time went"
+while read -r seconds what; do echo "$(minutes "$seconds"): $what"; done <"$room/times"
+cat "$room/slowest" 2>/dev/null
 finish
