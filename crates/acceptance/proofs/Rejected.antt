@@ -18,9 +18,11 @@ use Rattle.row.specs.Row.{headLen, dropFirst, popped, packetAt, stepped, steps,
 use Rattle.sender.specs.declared.Sender.{Sender}
 use Rattle.sender.specs.declared.Framed.{Framed}
 use Rattle.sender.specs.declared.Loaded.{Loaded}
-use Rattle.sender.specs.State.{queueOf, fresh, brokenState, putQueue, waitingOf}
+use Rattle.sender.specs.State as states
+use Rattle.sender.specs.State.{queueOf, brokenState, putQueue, waitingOf}
 use Rattle.sender.specs.Frame as frames
 use Rattle.sender.specs.Load as loads
+use Rattle.sender.specs.Outer.{outer, outerLoaded, outerFramed}
 use Rattle.acceptance.specs.Wrong.{Disperser, Disperses, Copies, Loader, Loads, TakesNone, Framer, Frames, firstId, OnlyFiller, again, ThenFiller, ThenRefuses, Invents}
 
 -- a zero byte becomes 07
@@ -43,67 +45,75 @@ small = record { p = 1; n = 1; share = three 1 0 0; ceiling = three 1 1 1 }
 abbrev store : List ℕ
 store = replicate 12288 0
 
+abbrev fresh : Sender
+fresh = outer states.fresh
+
 -- a unit of two bytes is taken by a fresh sender
 abbrev unit : List ℕ
 unit = 1 ∷ 2 ∷ []
 
 pub no-refuser : (f : Loader) → Loads f → TakesNone f → ⊥
-unfolding loads.loadFor loads.loadNumber loads.loadTests loads.loaded loads.full settingsFor settingsTests unfit brokenState broken fresh putQueue pushed
+unfolding outerLoaded loads.loadFor loads.loadNumber loads.loadTests loads.loaded loads.full settingsFor settingsTests unfit brokenState broken states.fresh putQueue pushed
     anyEmpty anyOver lengths unsent addUp
 no-refuser f meets none =
     let same : _≡_ {A = ℕ} 1 0
-    = ap (λ (s : Sender). queueOf s 0 .count) (sym (ap (λ (l : Loaded). l .next) (meets small fresh 0 unit store .0)) ∙ none small fresh 0 unit store) in
+    = ap (λ (s : Sender). queueOf (s .front) 0 .count) (sym (ap (λ (l : Loaded). l .next) (meets small fresh 0 unit store .0)) ∙ none small fresh 0 unit store) in
     omega arith
 
 -- ---- a sender whose queue 0 has that unit, two packets long
 abbrev busy : Sender
-busy = record { q = record { left = 2 ∷ replicate 7 0; count = 1; sent = 0 } ∷ noUnits ∷ noUnits ∷ []; turn = 0; index = replicate 4 0 }
+busy = outer (record { q = record { left = 2 ∷ replicate 7 0; count = 1; sent = 0 } ∷ noUnits ∷ noUnits ∷ []; turn = 0; index = replicate 4 0 })
 
 abbrev frame : List ℕ
 frame = replicate 4 0
 
 -- its first two frames and the first of a fresh sender, by computation
 abbrev left : Sender
-left = frames.frameFor small busy store frame .next
+left = outer (frames.frameFor small (busy .front) store frame .next)
 
 abbrev left-store : List ℕ
-left-store = frames.storeAfter small busy store frame
+left-store = frames.storeAfter small (busy .front) store frame
 
 abbrev left-frame : List ℕ
-left-frame = frames.outFor small busy store frame
+left-frame = frames.outFor small (busy .front) store frame
 
-two-frames : (frames.frameFor small busy store frame .number ≡ 0) × (firstId 1 left-frame ≡ 0)
-    × (frames.frameFor small left left-store left-frame .number ≡ 0) × (firstId 1 (frames.outFor small left left-store left-frame) ≡ 0)
-    × (frames.frameFor small busy store frame .packets .a ≡ 1)
-    × (frames.frameFor small fresh store frame .number ≡ 0) × (frames.frameFor small fresh store frame .packets .a ≡ 0)
+two-frames : (frames.frameFor small (busy .front) store frame .number ≡ 0) × (firstId 1 left-frame ≡ 0)
+    × (frames.frameFor small (left .front) left-store left-frame .number ≡ 0) × (firstId 1 (frames.outFor small (left .front) left-store left-frame) ≡ 0)
+    × (frames.frameFor small (busy .front) store frame .packets .a ≡ 1)
+    × (frames.frameFor small (fresh .front) store frame .number ≡ 0) × (frames.frameFor small (fresh .front) store frame .packets .a ≡ 0)
 unfolding frames.frameFor frames.frameNumber frames.frameTests frames.framed frames.outFor frames.frameBytes frames.framePackets frames.rowAt frames.nulls
-    frames.handOf frames.endsOf frames.nextFrom frames.storeAfter frames.closedAll frames.closed pulled fresh
+    frames.handOf frames.endsOf frames.nextFrom frames.storeAfter frames.closedAll frames.closed pulled states.fresh
     settingsFor settingsTests unfit brokenState broken anyEmpty anyOver lengths unsent addUp waitingOf waiting packets
     give free giveFirst giveOne spread handOut planFor handFor written steps outs stepped packetAt headLen popped dropFirst
     encode plainOf headOf dataOf sealed bytesOf decode
 two-frames = (refl, refl, refl, refl, refl, refl, refl)
 
 module _ (f : Framer) (meets : Frames f) where
-  answer : (s : Sender) → f small s store frame .0 ≡ frames.frameFor small s store frame
+  answer : (s : Sender) → f small s store frame .0 ≡ outerFramed (frames.frameFor small (s .front) store frame)
   answer s = meets small s store frame .0
 
   served : f small busy store frame .0 .number ≡ 0
+  unfolding outerFramed
   served = ap (λ (a : Framed). a .number) (answer busy) ∙ two-frames .0
 
+  state-left : f small busy store frame .0 .next ≡ left
+  unfolding outerFramed
+  state-left = ap (λ (a : Framed). a .next) (answer busy)
+
   -- the next frame, handed what this one left
-  next-answer : again f small busy store frame .0 ≡ frames.frameFor small left left-store left-frame
+  next-answer : again f small busy store frame .0 ≡ outerFramed (frames.frameFor small (left .front) left-store left-frame)
   next-answer =
       let m = meets small busy store frame in
-      let a = m .0 in
+      let a = state-left in
       let b = m .1 in
       let c = m .2 in
       let n = meets small (f small busy store frame .0 .next) (f small busy store frame .1) (f small busy store frame .2) .0 in
       cc
 
-  next-output : again f small busy store frame .2 ≡ frames.outFor small left left-store left-frame
+  next-output : again f small busy store frame .2 ≡ frames.outFor small (left .front) left-store left-frame
   next-output =
       let m = meets small busy store frame in
-      let a = m .0 in
+      let a = state-left in
       let b = m .1 in
       let c = m .2 in
       let n = meets small (f small busy store frame .0 .next) (f small busy store frame .1) (f small busy store frame .2) .2 in
@@ -122,10 +132,12 @@ module _ (f : Framer) (meets : Frames f) where
       omega arith
 
   pub no-refusal-after : ThenRefuses f → ⊥
+  unfolding outerFramed
   no-refusal-after then = then small busy store frame served (ap (λ (a : Framed). a .number) next-answer ∙ two-frames .2)
 
   -- a fresh sender sends none of queue 0, this one sends one
   pub no-invention : Invents f → ⊥
+  unfolding outerFramed
   no-invention invents =
       let none = ap (λ (a : Framed). a .number) (answer fresh) ∙ two-frames .5 in
       let same : _≡_ {A = ℕ} 0 1

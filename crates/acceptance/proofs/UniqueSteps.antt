@@ -20,6 +20,7 @@ use Rattle.row.specs.declared.Out.{Out}
 use Rattle.row.specs.Row.{rowFor, rowOut}
 use Rattle.sender.specs.declared.Sender.{Sender}
 use Rattle.sender.specs.State.{fresh}
+use Rattle.sender.specs.Outer.{outer}
 
 -- `moves::copy`, `clear` and `pull` answer nothing; an input is the slice before the call and what the call is handed
 pub copied : Settles (λ (i : List ℕ × ℕ × List ℕ) (o : List ℕ). o ≡ placed (i .0) (i .1) (i .2))
@@ -78,5 +79,5 @@ row =
 pub fresh-queue : Settles (λ (i : Unit {0}) (r : Queue). r ≡ queues.noUnits)
 fresh-queue = settled (λ i. queues.noUnits)
 
-pub fresh-sender : Settles (λ (i : Unit {0}) (r : Sender). r ≡ fresh)
-fresh-sender = settled (λ i. fresh)
+pub fresh-sender : Settles (λ (i : Unit {0}) (r : Sender). r ≡ outer fresh)
+fresh-sender = settled (λ i. outer fresh)

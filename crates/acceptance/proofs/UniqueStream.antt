@@ -19,6 +19,7 @@ use Rattle.sender.specs.declared.Loaded.{Loaded}
 use Rattle.sender.specs.declared.Sender.{Sender}
 use Rattle.sender.specs.Frame as frames
 use Rattle.sender.specs.Load as loads
+use Rattle.sender.specs.Outer.{outerLoaded, outerFramed}
 
 -- `packet::check`, `read` and `useful`; an input is p and the packet's bytes
 pub check : Settles (λ (i : ℕ × List ℕ) (r : ℕ). r ≡ packets.checkFor (i .0) (i .1))
@@ -44,14 +45,14 @@ hand-out = settled (λ i. handFor (i .0) (i .1) (i .2))
 
 -- `Sender::load`; an input is the settings, the state, the id, the unit and the store before the call
 pub load : Settles (λ (i : Settings × Sender × ℕ × List ℕ × List ℕ) (o : Loaded × List ℕ).
-    (o .0 ≡ loads.loadFor (i .0) (i .1) (i .2) (i .3) (i .4)) × (o .1 ≡ loads.storeFor (i .0) (i .1) (i .2) (i .3) (i .4)))
-load = settled-both (λ i. loads.loadFor (i .0) (i .1) (i .2) (i .3) (i .4)) (λ i. loads.storeFor (i .0) (i .1) (i .2) (i .3) (i .4))
+    (o .0 ≡ outerLoaded (loads.loadFor (i .0) (i .1 .front) (i .2) (i .3) (i .4))) × (o .1 ≡ loads.storeFor (i .0) (i .1 .front) (i .2) (i .3) (i .4)))
+load = settled-both (λ i. outerLoaded (loads.loadFor (i .0) (i .1 .front) (i .2) (i .3) (i .4))) (λ i. loads.storeFor (i .0) (i .1 .front) (i .2) (i .3) (i .4))
 
 -- `Sender::frame`, its answer and store, and its answer and output; an input is the settings, the state, and store and output before the call
 pub frame-store : Settles (λ (i : Settings × Sender × List ℕ × List ℕ) (o : Framed × List ℕ).
-    (o .0 ≡ frames.frameFor (i .0) (i .1) (i .2) (i .3)) × (o .1 ≡ frames.storeAfter (i .0) (i .1) (i .2) (i .3)))
-frame-store = settled-both (λ i. frames.frameFor (i .0) (i .1) (i .2) (i .3)) (λ i. frames.storeAfter (i .0) (i .1) (i .2) (i .3))
+    (o .0 ≡ outerFramed (frames.frameFor (i .0) (i .1 .front) (i .2) (i .3))) × (o .1 ≡ frames.storeAfter (i .0) (i .1 .front) (i .2) (i .3)))
+frame-store = settled-both (λ i. outerFramed (frames.frameFor (i .0) (i .1 .front) (i .2) (i .3))) (λ i. frames.storeAfter (i .0) (i .1 .front) (i .2) (i .3))
 
 pub frame-output : Settles (λ (i : Settings × Sender × List ℕ × List ℕ) (o : Framed × List ℕ).
-    (o .0 ≡ frames.frameFor (i .0) (i .1) (i .2) (i .3)) × (o .1 ≡ frames.outFor (i .0) (i .1) (i .2) (i .3)))
-frame-output = settled-both (λ i. frames.frameFor (i .0) (i .1) (i .2) (i .3)) (λ i. frames.outFor (i .0) (i .1) (i .2) (i .3))
+    (o .0 ≡ outerFramed (frames.frameFor (i .0) (i .1 .front) (i .2) (i .3))) × (o .1 ≡ frames.outFor (i .0) (i .1 .front) (i .2) (i .3)))
+frame-output = settled-both (λ i. outerFramed (frames.frameFor (i .0) (i .1 .front) (i .2) (i .3))) (λ i. frames.outFor (i .0) (i .1 .front) (i .2) (i .3))

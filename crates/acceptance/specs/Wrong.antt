@@ -15,6 +15,7 @@ use Rattle.sender.specs.declared.Loaded.{Loaded}
 use Rattle.sender.specs.declared.Sender.{Sender}
 use Rattle.sender.specs.Frame as frames
 use Rattle.sender.specs.Load as loads
+use Rattle.sender.specs.Outer.{outerLoaded, outerFramed}
 
 -- ---- reading an MDI packet
 abbrev pub Reader : Type 0
@@ -48,7 +49,7 @@ Loader = Settings → Sender → ℕ → List ℕ → List ℕ → Loaded × Lis
 
 abbrev pub Loads : Loader → Type 0
 Loads f = (g : Settings) (s : Sender) (id : ℕ) (unit store : List ℕ) →
-    (f g s id unit store .0 ≡ loads.loadFor g s id unit store) × (f g s id unit store .1 ≡ loads.storeFor g s id unit store)
+    (f g s id unit store .0 ≡ outerLoaded (loads.loadFor g (s .front) id unit store)) × (f g s id unit store .1 ≡ loads.storeFor g (s .front) id unit store)
 
 -- a loader that takes no unit
 abbrev pub TakesNone : Loader → Type 0
@@ -60,8 +61,8 @@ Framer = Settings → Sender → List ℕ → List ℕ → Framed × List ℕ ×
 
 abbrev pub Frames : Framer → Type 0
 Frames f = (g : Settings) (s : Sender) (store out : List ℕ) →
-    (f g s store out .0 ≡ frames.frameFor g s store out) × (f g s store out .1 ≡ frames.storeAfter g s store out)
-    × (f g s store out .2 ≡ frames.outFor g s store out)
+    (f g s store out .0 ≡ outerFramed (frames.frameFor g (s .front) store out)) × (f g s store out .1 ≡ frames.storeAfter g (s .front) store out)
+    × (f g s store out .2 ≡ frames.outFor g (s .front) store out)
 
 -- the id of a frame's first packet: filler comes last, so a frame that begins with id 3 holds nothing else
 abbrev pub firstId : ℕ → List ℕ → ℕ

@@ -4,6 +4,7 @@ use cases::answer;
 use cases::case;
 use hand::Three;
 use queue::Queue;
+use sender::Front;
 use sender::Sender;
 
 // The most steps of a script.
@@ -54,11 +55,12 @@ fn sender_in(body: &[u8]) -> Sender {
     let i2 = case::byte(body, 106);
     let i3 = case::byte(body, 107);
     let index = [i0, i1, i2, i3];
-    Sender {
+    let front = Front {
         q,
         turn: fields::read64(body, 96) as usize,
         index,
-    }
+    };
+    Sender { front }
 }
 
 // The eight values of a step.
@@ -166,14 +168,15 @@ fn tell_queue(out: &mut [u8], at: usize, q: Queue) -> usize {
 }
 
 fn tell_sender(out: &mut [u8], at: usize, s: Sender) -> usize {
-    let a = s.q[0];
-    let b = s.q[1];
-    let c = s.q[2];
-    let i = s.index;
+    let f = s.front;
+    let a = f.q[0];
+    let b = f.q[1];
+    let c = f.q[2];
+    let i = f.index;
     let at = tell_queue(out, at, a);
     let at = tell_queue(out, at, b);
     let at = tell_queue(out, at, c);
-    let at = answer::three(out, at, s.turn as u64, wide8(i[0]), wide8(i[1]));
+    let at = answer::three(out, at, f.turn as u64, wide8(i[0]), wide8(i[1]));
     let at = answer::value(out, at, wide8(i[2]));
     answer::value(out, at, wide8(i[3]))
 }

@@ -25,7 +25,7 @@ use Rattle.row.proofs.Steps.{at-fits, whole-of, whole-steps}
 use Rattle.sender.specs.State.{indexOf, outOf, partOf, putQueue, waitingOf}
 use Rattle.sender.specs.Load.{loadNumber, loaded, loadFor}
 use Rattle.sender.specs.Frame.{handOf, rowAt, framePackets, frameBytes, endsOf, nextFrom, frameNumber, framed, frameFor, outFor}
-use Rattle.sender.specs.declared.Sender.{Sender}
+use Rattle.sender.specs.declared.Front.{Front}
 use Rattle.sender.proofs.Framing.{null-outs, fit-of}
 use Rattle.demand.specs.Bytes.{packetsIn, AllRight, saying}
 use Rattle.demand.specs.Run.{Act, load, frame, Desk, settingsOf, after, Steady, saidBy, saidIn}
@@ -96,7 +96,7 @@ module _ (p j : ℕ) (region : List ℕ) (lo : 1 ≤ p) (hi : p ≤ 255) (hj : j
 -- ---- the frame
 -- what stands behind it in the output does not matter
 module _ (g : Settings) (x : Desk) (k : Good (g .p) x) (al : Allowed g) (rest : List ℕ) where
-  abbrev S : Sender
+  abbrev S : Front
   S = x .state
 
   abbrev N : Three
@@ -163,7 +163,7 @@ module _ (g : Settings) (x : Desk) (k : Good (g .p) x) (al : Allowed g) (rest : 
   own-filler = four 3 false false false true refl refl refl refl ∙ append-nil (numbered 3 (indexOf S 3) (rowChunks (g .p) [] F (startOf noUnits (indexOf S 3))))
 
 -- the index that it leaves
-frame-index : (g : Settings) (s : Sender) (id : ℕ) → id < 3 → indexOf (framed g s .next) id ≡ indexAfter (at (handOf g s .packets) id) (indexOf s id)
+frame-index : (g : Settings) (s : Front) (id : ℕ) → id < 3 → indexOf (framed g s .next) id ≡ indexAfter (at (handOf g s .packets) id) (indexOf s id)
 unfolding framed nextFrom endsOf
 frame-index g s zero h = index-steps (g .p) (handOf g s .packets .a) (outOf s 0)
 frame-index g s (suc zero) h = index-steps (g .p) (handOf g s .packets .b) (outOf s 1)

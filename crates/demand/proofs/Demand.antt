@@ -31,7 +31,7 @@ use Rattle.sender.specs.Load.{loadTests, loadNumber, loadFor, Accepted}
 use Rattle.sender.specs.Frame.{handOf, endsOf, nextFrom, frameTests, frameNumber, frameFor}
 use Rattle.sender.specs.Frame as sends
 use Rattle.sender.specs.Load as loads
-use Rattle.sender.specs.declared.Sender.{Sender}
+use Rattle.sender.specs.declared.Front.{Front}
 use Rattle.sender.proofs.Loading.{passed}
 use Rattle.sender.proofs.Framing.{fit-of}
 use Rattle.demand.specs.Run.{Act, load, frame, Desk, settingsOf, run, Steady, turnOf, history, waitingIn, framesOf, Standing}
@@ -46,7 +46,7 @@ steps-units p (suc n) o hp w =
     let s = sound-in p 4096 (steps p n o) (whole-steps p 4096 n o hp w) in
     pop-at p (steps p n o .q) (s .eight) (s .count) .list ∙ ap (one p) (steps-units p n o hp w)
 
-waits-at : (p : ℕ) (s : Sender) (id : ℕ) → id < 3 → at (waitingOf p s) id ≡ waits p (units (queueOf s id))
+waits-at : (p : ℕ) (s : Front) (id : ℕ) → id < 3 → at (waitingOf p s) id ≡ waits p (units (queueOf s id))
 unfolding waitingOf waiting waits
 waits-at p s zero h = refl
 waits-at p s (suc zero) h = refl
@@ -86,7 +86,7 @@ load-did : (p : ℕ) (g : Settings) (id j : ℕ) (unit : List ℕ) (x : Desk) �
 unfolding turnOf runs.after loadFor loadNumber after Lawful
 load-did p g id j unit x k = go (eqb (refusedWith (loadTests g (x .state) j (length unit) (length (x .store)))) 0) refl
   where
-    s : Sender
+    s : Front
     s = x .state
 
     both : (d : Bool) → (q : Queue) → q ≡ pick d (pushed (queueOf s j) (length unit)) (queueOf s id) → (d ≡ true → id ≡ j) → Accepted s j (length unit) (length (x .store))

@@ -29,7 +29,7 @@ use Rattle.row.proofs.Steps.{whole-of, whole-steps, sound-in}
 use Rattle.sender.specs.State.{noQueue, queueOf, indexOf, outOf, fresh, brokenState, putQueue, waitingOf}
 use Rattle.sender.specs.Load.{full, loadTests, loadNumber, loaded, placedIn, loadFor, storeFor, Accepted}
 use Rattle.sender.specs.Frame.{handOf, endOf, endsOf, nextFrom, closed, closedAll, frameTests, frameNumber, framed, frameFor, storeAfter}
-use Rattle.sender.specs.declared.Sender.{Sender}
+use Rattle.sender.specs.declared.Front.{Front}
 use Rattle.sender.proofs.Faults.{fine-back}
 use Rattle.sender.proofs.Loading.{passed, passed-back}
 use Rattle.sender.proofs.Framing.{fit-of}
@@ -94,7 +94,7 @@ put-at : (l : List Queue) (id j : ℕ) (q : Queue) → id < length l → (b : Bo
 put-at l id j q h true e = let z : j ≡ id = eqb-true j id e in rw z (getD-set-same l id q noQueue h)
 put-at l id j q h false e = getD-set-other l id j q noQueue (eqb-false j id e)
 
-pub loaded-queue : (s : Sender) (id j n : ℕ) → length (s .q) ≡ 3 → id < 3
+pub loaded-queue : (s : Front) (id j n : ℕ) → length (s .q) ≡ 3 → id < 3
     → queueOf (loaded s id n) j ≡ pick (eqb j id) (pushed (queueOf s id) n) (queueOf s j)
 unfolding loaded putQueue
 loaded-queue s id j n l h = put-at (s .q) id j (pushed (queueOf s id) n) (omega arith) (eqb j id) refl

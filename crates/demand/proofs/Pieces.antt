@@ -29,7 +29,7 @@ use Rattle.sender.specs.Load.{loadTests, loadNumber, placedIn, loadFor, storeFo
 use Rattle.sender.specs.Frame.{handOf, endOf, endsOf, nextFrom, closed, closedAll, frameTests, frameNumber, frameFor, frameBytes, storeAfter, outFor}
 use Rattle.sender.specs.Frame as sends
 use Rattle.sender.specs.Load as loads
-use Rattle.sender.specs.declared.Sender.{Sender}
+use Rattle.sender.specs.declared.Front.{Front}
 use Rattle.sender.proofs.Loading.{passed}
 use Rattle.sender.proofs.Framing.{fit-of}
 use Rattle.demand.specs.Bytes.{packetsIn, saying}
@@ -111,7 +111,7 @@ module _ (p : ℕ) where
 
 -- ---- a load
 module _ (p : ℕ) (x : Desk) (k : Good p x) (j : ℕ) (unit : List ℕ) (a : Accepted (x .state) j (length unit) (length (x .store))) where
-  abbrev s : Sender
+  abbrev s : Front
   s = x .state
 
   y : Desk

@@ -23,7 +23,7 @@ use Rattle.row.specs.declared.Out.{Out}
 use Rattle.row.proofs.Steps.{at-fits, whole-of, whole-steps}
 use Rattle.sender.specs.State.{indexOf, outOf, partOf, waitingOf}
 use Rattle.sender.specs.Frame.{handOf, rowAt, framePackets, frameBytes}
-use Rattle.sender.specs.declared.Sender.{Sender}
+use Rattle.sender.specs.declared.Front.{Front}
 use Rattle.sender.proofs.Framing.{null-outs}
 use Rattle.demand.specs.Run.{Desk}
 use Rattle.demand.specs.Bytes.{packetsIn, AllRight, saying}
@@ -119,7 +119,7 @@ saying-row p id j region (suc n) o false e =
 -- ---- the frame
 -- what stands behind it in the output does not matter
 module _ (g : Settings) (x : Desk) (k : Good (g .p) x) (al : Allowed g) (rest : List ℕ) where
-  abbrev S : Sender
+  abbrev S : Front
   S = x .state
 
   abbrev N : Three

@@ -17,7 +17,7 @@ use Rattle.sender.specs.State.{queueOf, partOf}
 use Rattle.sender.specs.Load.{loadNumber, loadFor, storeFor}
 use Rattle.sender.specs.Frame.{handOf, frameNumber, frameFor, storeAfter, outFor}
 use Rattle.demand.specs.Bytes.{packetsIn, saying}
-use Rattle.sender.specs.declared.Sender.{Sender}
+use Rattle.sender.specs.declared.Front.{Front}
 
 -- a call, with what is newly handed in: its settings, and a unit for queue id or an output
 pub data Act : Type 0 where
@@ -26,7 +26,7 @@ pub data Act : Type 0 where
 
 -- what the calls hand on
 pub record Desk : Type 0 where
-  pub state : Sender
+  pub state : Front
   pub store : List ℕ
 
 abbrev pub settingsOf : Act → Settings

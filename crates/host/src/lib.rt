@@ -10,6 +10,7 @@ ghost use Rattle.receiver.specs.Receiver.{saidFor, bufferFor};
 ghost use Rattle.sender.specs.State.{fresh};
 ghost use Rattle.sender.specs.Load.{loadFor, storeFor};
 ghost use Rattle.sender.specs.Frame.{frameFor, storeAfter, outFor};
+ghost use Rattle.sender.specs.Outer.{outer, outerLoaded, outerFramed};
 ghost use Rattle.host.specs.Received.{unheard, receivedBy, receivedFor, said};
 use hand::Settings;
 use receiver::Answer;
@@ -52,7 +53,7 @@ pub extern "C" fn keshgurvat_settings_check(settings: Settings) -> u32
 
 #[no_mangle]
 pub extern "C" fn keshgurvat_sender_fresh() -> Sender
-    ensures { λ r. ⌜ r ≡ fresh ⌝ }
+    ensures { λ r. ⌜ r ≡ outer fresh ⌝ }
 {
     Sender::fresh()
 }
@@ -65,8 +66,8 @@ pub extern "C" fn keshgurvat_load(
     id: usize,
     unit: &[u8],
 ) -> Loaded
-    ensures answer { λ r. ⌜ r ≡ loadFor settings state id (now (unit .entry)) (now (store .entry)) ⌝ }
-    ensures memory { λ _. ⌜ now (store .exit) ≡ storeFor settings state id (now (unit .entry)) (now (store .entry)) ⌝ }
+    ensures answer { λ r. ⌜ r ≡ outerLoaded (loadFor settings (state .front) id (now (unit .entry)) (now (store .entry))) ⌝ }
+    ensures memory { λ _. ⌜ now (store .exit) ≡ storeFor settings (state .front) id (now (unit .entry)) (now (store .entry)) ⌝ }
 {
     state.load(settings, store, id, unit)
 }
@@ -78,9 +79,9 @@ pub extern "C" fn keshgurvat_frame(
     store: &mut [u8],
     out: &mut [u8],
 ) -> Framed
-    ensures answer { λ r. ⌜ r ≡ frameFor settings state (now (store .entry)) (now (out .entry)) ⌝ }
-    ensures kept { λ _. ⌜ now (store .exit) ≡ storeAfter settings state (now (store .entry)) (now (out .entry)) ⌝ }
-    ensures written { λ _. ⌜ now (out .exit) ≡ outFor settings state (now (store .entry)) (now (out .entry)) ⌝ }
+    ensures answer { λ r. ⌜ r ≡ outerFramed (frameFor settings (state .front) (now (store .entry)) (now (out .entry))) ⌝ }
+    ensures kept { λ _. ⌜ now (store .exit) ≡ storeAfter settings (state .front) (now (store .entry)) (now (out .entry)) ⌝ }
+    ensures written { λ _. ⌜ now (out .exit) ≡ outFor settings (state .front) (now (store .entry)) (now (out .entry)) ⌝ }
 {
     state.frame(settings, store, out)
 }

@@ -64,7 +64,8 @@ fn begin() -> Run {
 
 // The packets that wait in a queue.
 pub(crate) fn waiting(w: Plan, s: Sender, id: usize) -> usize {
-    let q = s.q[id % 3];
+    let f = s.front;
+    let q = f.q[id % 3];
     q.waiting((w.settings.p % 256) as u8)
 }
 

@@ -35,8 +35,8 @@ use Rattle.row.proofs.Steps.{Fit, fit-back, outs-length}
 use Rattle.sender.specs.State.{queueOf, indexOf, outOf, partOf, brokenState, waitingOf}
 use Rattle.sender.specs.Frame.{Ready, handOf, rowAt, nulls, framePackets, endOf, endsOf, nextFrom, closed, closedAll, frameTests, frameNumber, framed, frameFor, frameBytes, outFor, storeAfter}
 use Rattle.sender.specs.Frame as spec
-use Rattle.sender.specs.declared.Sender.{Sender}
-use Rattle.sender.specs.declared.Framed.{Framed}
+use Rattle.sender.specs.declared.Front.{Front}
+use Rattle.sender.specs.Answers.{Framed}
 use Rattle.sender.specs.declared.Ends.{Ends}
 use Rattle.sender.proofs.Faults.{Fine, fine-of}
 
@@ -60,13 +60,13 @@ part-length : (store : List ℕ) (id : ℕ) → id < 3 → length store ≡ 1228
 part-length store id h l = length-take-le 4096 (drop (id * 4096) store) (omega (arith, length-drop (id * 4096) store))
 
 -- a queue, and its index
-fine-queue : (p : ℕ) (s : Sender) (id : ℕ) → id < 3 → Fine p s → (broken p (queueOf s id) ≡ false) × (indexOf s id ≤ 7)
+fine-queue : (p : ℕ) (s : Front) (id : ℕ) → id < 3 → Fine p s → (broken p (queueOf s id) ≡ false) × (indexOf s id ≤ 7)
 fine-queue p s zero h f = (f .q0, f .i0)
 fine-queue p s (suc zero) h f = (f .q1, f .i1)
 fine-queue p s (suc (suc zero)) h f = (f .q2, f .i2)
 fine-queue p s (suc (suc (suc id))) h f = absurd (omega arith)
 
-pub row-at-is : (p id n : ℕ) (s : Sender) (store out : List ℕ) (at k m b : ℕ) → id < 3 → Ready p s (length store) → at + n * (p + 3) ≤ length out
+pub row-at-is : (p id n : ℕ) (s : Front) (store out : List ℕ) (at k m b : ℕ) → id < 3 → Ready p s (length store) → at + n * (p + 3) ≤ length out
     → k ≡ 4096 → m ≡ length out - at → b ≡ id * 4096 → (r : Out) (y : List ℕ)
     → r ≡ rowFor p id n (queueOf s id) (indexOf s id) (length (take k (drop b store))) (length (take m (drop at out)))
     → y ≡ rowOut p id n (queueOf s id) (indexOf s id) (take k (drop b store)) (take m (drop at out))
@@ -101,7 +101,7 @@ module _ (p i : ℕ) (region : List ℕ) (h : i < 8) where
       ∙ ap (λ (o : Out). nulls p i n ++ packetAt p 3 region o) (null-steps n)
       ∙ ap (λ (l : List ℕ). nulls p i n ++ l) (null-packet ((i + n) % 8))
 
-pub filler-at-is : (p n : ℕ) (s : Sender) (store out : List ℕ) (at m : ℕ) (q : Queue) → Ready p s (length store) → at + n * (p + 3) ≤ length out → m ≡ length out - at
+pub filler-at-is : (p n : ℕ) (s : Front) (store out : List ℕ) (at m : ℕ) (q : Queue) → Ready p s (length store) → at + n * (p + 3) ≤ length out → m ≡ length out - at
     → q ≡ noUnits → (r : Out) (y : List ℕ)
     → r ≡ rowFor p 3 n q (indexOf s 3) (length (take 4096 (drop 0 store))) (length (take m (drop at out)))
     → y ≡ rowOut p 3 n q (indexOf s 3) (take 4096 (drop 0 store)) (take m (drop at out))
@@ -119,11 +119,11 @@ filler-at-is p n s store out at m q k0 room em eq r y er ey =
     (ap (λ (o : Out). o .index) (k .0 ∙ null-steps p (indexOf s 3) region h n), k .1 ∙ ap (written out at) (null-outs p (indexOf s 3) region h n))
 
 -- ---- the rows one behind the other
-row-length : (p : ℕ) (s : Sender) (store : List ℕ) (id n : ℕ) → 1 ≤ p → length (rowAt p s store id n) ≡ n * (p + 3)
+row-length : (p : ℕ) (s : Front) (store : List ℕ) (id n : ℕ) → 1 ≤ p → length (rowAt p s store id n) ≡ n * (p + 3)
 unfolding rowAt
 row-length p s store id n h = outs-length p id (partOf store id) n (outOf s id) h
 
-pub rows-are : (p : ℕ) (s : Sender) (store : List ℕ) (n : Three) (filler : ℕ) (d d₁ d₂ d₃ d₄ : List ℕ) (e₀ e₁ e₂ : ℕ) → 1 ≤ p
+pub rows-are : (p : ℕ) (s : Front) (store : List ℕ) (n : Three) (filler : ℕ) (d d₁ d₂ d₃ d₄ : List ℕ) (e₀ e₁ e₂ : ℕ) → 1 ≤ p
     → (total n + filler) * (p + 3) ≤ length d → e₀ ≡ n .a * (p + 3) → e₁ ≡ n .a * (p + 3) + n .b * (p + 3) → e₂ ≡ n .a * (p + 3) + n .b * (p + 3) + n .c * (p + 3)
     → d₁ ≡ written d 0 (rowAt p s store 0 (n .a)) → d₂ ≡ written d₁ e₀ (rowAt p s store 1 (n .b)) → d₃ ≡ written d₂ e₁ (rowAt p s store 2 (n .c))
     → d₄ ≡ written d₃ e₂ (nulls p (indexOf s 3) filler) → d₄ ≡ written d 0 (framePackets p s store n filler)
@@ -142,7 +142,7 @@ rows-are p s store n filler d d₁ d₂ d₃ d₄ e₀ e₁ e₂ hp room q₀ q�
     let x₃ : d₃ ≡ written d 0 (r₀ ++ r₁ ++ r₂) = w₃ ∙ write-next d d₂ 0 (r₀ ++ r₁) r₂ e₁ (omega arith) (omega arith) x₂ in
     w₄ ∙ write-next d d₃ 0 (r₀ ++ r₁ ++ r₂) r₃ e₂ (omega arith) (omega arith) x₃
 
-pub ends-are : (p : ℕ) (s : Sender) (n : Three) (filler : ℕ) (a b c : Out) (i : ℕ) → a ≡ endOf p s 0 (n .a) → b ≡ endOf p s 1 (n .b) → c ≡ endOf p s 2 (n .c)
+pub ends-are : (p : ℕ) (s : Front) (n : Three) (filler : ℕ) (a b c : Out) (i : ℕ) → a ≡ endOf p s 0 (n .a) → b ≡ endOf p s 1 (n .b) → c ≡ endOf p s 2 (n .c)
     → i ≡ (indexOf s 3 + filler) % 8 → _≡_ {A = Ends} (record { a = a; b = b; c = c; index = i }) (endsOf p s n filler)
 unfolding endsOf
 ends-are p s n filler a b c i ea eb ec ei = simp (ea, eb, ec, ei)
@@ -157,7 +157,7 @@ steps-at p (suc n) o = omega (arith, steps-at p n o, headLen-p p (steps p n o .q
 pub product-in : (g : Settings) (k : ℕ) → k ≡ settingsFor g → k ≡ 0 → g .n * (g .p + 3) ≤ 8190
 product-in g k ek hk = allowed g (sym ek ∙ hk) .room
 
-module _ (g : Settings) (s : Sender) (room size : ℕ) where
+module _ (g : Settings) (s : Front) (room size : ℕ) where
   pub no-13 : (k : ℕ) → k ≡ settingsFor g → (k ≡ 0 → ⊥) → 13 ≡ refusedWith (frameTests g s room size)
   unfolding frameTests
   no-13 k e h = simp (← e, ne-eqb k 0 h)
@@ -200,7 +200,7 @@ module _ (g : Settings) (s : Sender) (room size : ℕ) where
       (ap not (eq-eqb (settingsFor g) 0 (f .allowed-in)), (f .fine, (ap not (eq-eqb room 12288 (f .whole)), (le-ltb size (g .n * (g .p + 3)) (f .fits), tt))))
 
 -- ---- where the checks have passed
-module _ (g : Settings) (s : Sender) (room size : ℕ) (f : spec.Fit g s room size) where
+module _ (g : Settings) (s : Front) (room size : ℕ) (f : spec.Fit g s room size) where
   settings : Allowed g
   settings = allowed g (f .allowed-in)
 
@@ -235,7 +235,7 @@ module _ (g : Settings) (s : Sender) (room size : ℕ) (f : spec.Fit g s room si
           omega (arith, steps-at (g .p) (h .packets .c) (outOf s 2), mul-le-mul-right (g .p) c),
         )
 
-    pub framed-is : (e : Ends) → e ≡ endsOf p s (h .packets) (h .filler) → (r : Sender) → r ≡ nextFrom e (h .turn)
+    pub framed-is : (e : Ends) → e ≡ endsOf p s (h .packets) (h .filler) → (r : Front) → r ≡ nextFrom e (h .turn)
         → _≡_ {A = Framed} (record { number = 0; next = r; packets = h .packets; spares = h .spares; filler = h .filler }) (framed g s)
     unfolding framed
     framed-is e ee r er =
@@ -258,7 +258,7 @@ module _ (g : Settings) (s : Sender) (room size : ℕ) (f : spec.Fit g s room si
         ∙ ap (λ (x : Handed). written out 0 (framePackets (g .p) s store (x .packets) (x .filler))) hand-here
 
 -- ---- the call
-module _ (g : Settings) (s : Sender) (store out : List ℕ) (k : ℕ) (e : k ≡ refusedWith (frameTests g s (length store) (length out))) where
+module _ (g : Settings) (s : Front) (store out : List ℕ) (k : ℕ) (e : k ≡ refusedWith (frameTests g s (length store) (length out))) where
   pub frame-refused : (k ≡ 0 → ⊥)
       → (_≡_ {A = Framed} (record { number = k; next = s; packets = noThree; spares = 0; filler = 0 }) (frameFor g s store out))
       × ((store ≡ storeAfter g s store out) × (out ≡ outFor g s store out))

@@ -20,15 +20,15 @@ use Rattle.queue.specs.declared.Queue.{Queue}
 use Rattle.laws.proofs.Flags.{or-false}
 use Rattle.sender.specs.State.{queueOf, brokenState, putQueue}
 use Rattle.sender.specs.Load.{full, loadTests, loadNumber, loaded, placedIn, loadFor, storeFor, Accepted}
-use Rattle.sender.specs.declared.Sender.{Sender}
-use Rattle.sender.specs.declared.Loaded.{Loaded}
+use Rattle.sender.specs.declared.Front.{Front}
+use Rattle.sender.specs.Answers.{Loaded}
 
 -- ---- room
-pub full-eight : (s : Sender) (id n : ℕ) → 8 ≤ queueOf s id .count → true ≡ full s id n
+pub full-eight : (s : Front) (id n : ℕ) → 8 ≤ queueOf s id .count → true ≡ full s id n
 unfolding full
 full-eight s id n h = simp (le-leb _ _ h)
 
-pub full-rest : (s : Sender) (id n u : ℕ) → queueOf s id .count < 8 → u ≡ unsent (queueOf s id) → ltb 4096 (n + u) ≡ full s id n
+pub full-rest : (s : Front) (id n u : ℕ) → queueOf s id .count < 8 → u ≡ unsent (queueOf s id) → ltb 4096 (n + u) ≡ full s id n
 unfolding full
 full-rest s id n u h e = simp (lt-leb _ _ h, e)
 
@@ -36,7 +36,7 @@ full-rest s id n u h e = simp (lt-leb _ _ h, e)
 pub p-fits : (g : Settings) (k : ℕ) → k ≡ settingsFor g → k ≡ 0 → g .p ≤ 255
 p-fits g k ek hk = allowed g (sym ek ∙ hk) .high
 
-module _ (g : Settings) (s : Sender) (id n room : ℕ) where
+module _ (g : Settings) (s : Front) (id n room : ℕ) where
   pub no-13 : (k : ℕ) → k ≡ settingsFor g → (k ≡ 0 → ⊥) → 13 ≡ refusedWith (loadTests g s id n room)
   unfolding loadTests
   no-13 k e h = simp (← e, ne-eqb k 0 h)
@@ -136,7 +136,7 @@ module _ (g : Settings) (s : Sender) (id n room : ℕ) where
       )
 
 -- ---- what the call answers
-module _ (g : Settings) (s : Sender) (id : ℕ) (unit store : List ℕ) (k : ℕ) (e : k ≡ refusedWith (loadTests g s id (length unit) (length store))) where
+module _ (g : Settings) (s : Front) (id : ℕ) (unit store : List ℕ) (k : ℕ) (e : k ≡ refusedWith (loadTests g s id (length unit) (length store))) where
   pub load-refused : (k ≡ 0 → ⊥)
       → (_≡_ {A = Loaded} (record { number = k; next = s }) (loadFor g s id unit store)) × (store ≡ storeFor g s id unit store)
   unfolding loadFor storeFor loadNumber
@@ -145,15 +145,15 @@ module _ (g : Settings) (s : Sender) (id : ℕ) (unit store : List ℕ) (k : ℕ
   pub load-passed : k ≡ 0 → Accepted s id (length unit) (length store)
   load-passed z = passed g s id (length unit) (length store) (sym e ∙ z) .unit
 
-  pub load-done : k ≡ 0 → (r : Sender) (d : List ℕ) → r ≡ loaded s id (length unit) → d ≡ placedIn s id unit store
+  pub load-done : k ≡ 0 → (r : Front) (d : List ℕ) → r ≡ loaded s id (length unit) → d ≡ placedIn s id unit store
       → (_≡_ {A = Loaded} (record { number = 0; next = r }) (loadFor g s id unit store)) × (d ≡ storeFor g s id unit store)
   unfolding loadFor storeFor loadNumber
   load-done z r d er ed = (simp (← e, z, er), simp (← e, z) ed)
 
 -- the unit's bytes, and the queue in its place
-pub place-is : (s : Sender) (id u : ℕ) (unit store d : List ℕ) (r : Queue) → Accepted s id (length unit) (length store) → u ≡ unsent (queueOf s id)
+pub place-is : (s : Front) (id u : ℕ) (unit store d : List ℕ) (r : Queue) → Accepted s id (length unit) (length store) → u ≡ unsent (queueOf s id)
     → d ≡ placed store (id * 4096 + u) unit → r ≡ pushed (queueOf s id) (length unit)
-    → (_≡_ {A = Sender} (record { q = set (s .q) id r; turn = s .turn; index = s .index }) (loaded s id (length unit))) × (d ≡ placedIn s id unit store)
+    → (_≡_ {A = Front} (record { q = set (s .q) id r; turn = s .turn; index = s .index }) (loaded s id (length unit))) × (d ≡ placedIn s id unit store)
 unfolding loaded putQueue placedIn
 place-is s id u unit store d r a eu ed er =
     let f = a .fits in

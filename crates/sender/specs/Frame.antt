@@ -19,17 +19,17 @@ use Rattle.queue.specs.Queue.{unsent}
 use Rattle.row.specs.Row.{steps, outs}
 use Rattle.row.specs.declared.Out.{Out}
 use Rattle.sender.specs.State.{indexOf, outOf, partOf, brokenState, waitingOf}
-use Rattle.sender.specs.declared.Sender.{Sender}
-use Rattle.sender.specs.declared.Framed.{Framed}
+use Rattle.sender.specs.declared.Front.{Front}
+use Rattle.sender.specs.Answers.{Framed}
 use Rattle.sender.specs.declared.Ends.{Ends}
 
 -- what is handed out
-unfoldable pub handOf : Settings → Sender → Handed
+unfoldable pub handOf : Settings → Front → Handed
 handOf g s = handFor g (waitingOf (g .p) s) (s .turn)
 
 -- ---- the bytes of the frame
 -- n packets of queue id
-unfoldable pub rowAt : ℕ → Sender → List ℕ → ℕ → ℕ → List ℕ
+unfoldable pub rowAt : ℕ → Front → List ℕ → ℕ → ℕ → List ℕ
 rowAt p s store id n = outs p id (partOf store id) n (outOf s id)
 
 -- n null packets of id 3, the first with index i
@@ -37,19 +37,19 @@ unfoldable pub nulls : ℕ → ℕ → ℕ → List ℕ
 nulls p i zero = []
 nulls p i (suc n) = nulls p i n ++ encode p (packetOf true true 3 ((i + n) % 8) [])
 
-unfoldable pub framePackets : ℕ → Sender → List ℕ → Three → ℕ → List ℕ
+unfoldable pub framePackets : ℕ → Front → List ℕ → Three → ℕ → List ℕ
 framePackets p s store n filler = rowAt p s store 0 (n .a) ++ rowAt p s store 1 (n .b) ++ rowAt p s store 2 (n .c) ++ nulls p (indexOf s 3) filler
 
 -- ---- the state after it
 -- where the writing of queue id ends
-abbrev pub endOf : ℕ → Sender → ℕ → ℕ → Out
+abbrev pub endOf : ℕ → Front → ℕ → ℕ → Out
 endOf p s id n = steps p n (outOf s id)
 
-unfoldable pub endsOf : ℕ → Sender → Three → ℕ → Ends
+unfoldable pub endsOf : ℕ → Front → Three → ℕ → Ends
 endsOf p s n filler =
     record { a = endOf p s 0 (n .a); b = endOf p s 1 (n .b); c = endOf p s 2 (n .c); index = (indexOf s 3 + filler) % 8 }
 
-unfoldable pub nextFrom : Ends → ℕ → Sender
+unfoldable pub nextFrom : Ends → ℕ → Front
 nextFrom e turn =
     record { q = e .a .q ∷ e .b .q ∷ e .c .q ∷ []; turn = turn; index = e .a .index ∷ e .b .index ∷ e .c .index ∷ e .index ∷ [] }
 
@@ -57,20 +57,20 @@ nextFrom e turn =
 unfoldable pub closed : List ℕ → ℕ → Out → List ℕ
 closed store id o = pulled store (id * 4096) (id * 4096 + o .at) (unsent (o .q))
 
-unfoldable pub closedAll : ℕ → Sender → Three → List ℕ → List ℕ
+unfoldable pub closedAll : ℕ → Front → Three → List ℕ → List ℕ
 closedAll p s n store = closed (closed (closed store 0 (endOf p s 0 (n .a))) 1 (endOf p s 1 (n .b))) 2 (endOf p s 2 (n .c))
 
 -- ---- the call
 -- the refusals with a store of room bytes and an output of size bytes, in the order tried
-unfoldable pub frameTests : Settings → Sender → ℕ → ℕ → List Test
+unfoldable pub frameTests : Settings → Front → ℕ → ℕ → List Test
 frameTests g s room size =
     test (not (eqb (settingsFor g) 0)) 13 ∷ test (brokenState (g .p) s) 17 ∷ test (not (eqb room 12288)) 1 ∷ test (ltb size (g .n * (g .p + 3))) 1 ∷ []
 
-unfoldable pub frameNumber : Settings → Sender → List ℕ → List ℕ → ℕ
+unfoldable pub frameNumber : Settings → Front → List ℕ → List ℕ → ℕ
 frameNumber g s store out = refusedWith (frameTests g s (length store) (length out))
 
 -- what a frame that is not refused answers
-unfoldable pub framed : Settings → Sender → Framed
+unfoldable pub framed : Settings → Front → Framed
 framed g s =
     let h = handOf g s in
     record {
@@ -81,29 +81,29 @@ framed g s =
       filler = h .filler;
     }
 
-unfoldable pub frameFor : Settings → Sender → List ℕ → List ℕ → Framed
+unfoldable pub frameFor : Settings → Front → List ℕ → List ℕ → Framed
 frameFor g s store out =
     let number = frameNumber g s store out in
     pick (eqb number 0) (framed g s) (record { number = number; next = s; packets = noThree; spares = 0; filler = 0 })
 
 -- the bytes written
-unfoldable pub frameBytes : Settings → Sender → List ℕ → List ℕ
+unfoldable pub frameBytes : Settings → Front → List ℕ → List ℕ
 frameBytes g s store = framePackets (g .p) s store (handOf g s .packets) (handOf g s .filler)
 
 -- the output and the store after the call
-unfoldable pub outFor : Settings → Sender → List ℕ → List ℕ → List ℕ
+unfoldable pub outFor : Settings → Front → List ℕ → List ℕ → List ℕ
 outFor g s store out = pick (eqb (frameNumber g s store out) 0) (written out 0 (frameBytes g s store)) out
 
-unfoldable pub storeAfter : Settings → Sender → List ℕ → List ℕ → List ℕ
+unfoldable pub storeAfter : Settings → Front → List ℕ → List ℕ → List ℕ
 storeAfter g s store out = pick (eqb (frameNumber g s store out) 0) (closedAll (g .p) s (handOf g s .packets) store) store
 
 -- ---- what the checks establish
-pub record Ready (p : ℕ) (s : Sender) (room : ℕ) : Type 0 where
+pub record Ready (p : ℕ) (s : Front) (room : ℕ) : Type 0 where
   pub low : 1 ≤ p
   pub fine : brokenState p s ≡ false
   pub whole : room ≡ 12288
 
-pub record Fit (g : Settings) (s : Sender) (room size : ℕ) : Type 0 where
+pub record Fit (g : Settings) (s : Front) (room size : ℕ) : Type 0 where
   pub allowed-in : settingsFor g ≡ 0
   pub fine : brokenState (g .p) s ≡ false
   pub whole : room ≡ 12288

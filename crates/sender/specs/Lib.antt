@@ -1,3 +1,5 @@
 pub mod State
+pub mod Answers
 pub mod Load
 pub mod Frame
+pub mod Outer

@@ -12,14 +12,22 @@ ghost use Rattle.laws.specs.Written.{written};
 ghost use Rattle.hand.specs.Settings.{total};
 ghost use Rattle.sender.specs.State.{indexOf, brokenState, fresh, waitingOf};
 ghost use Rattle.sender.specs.Load.{full, loadTests, loadFor, storeFor, Accepted, loaded, placedIn};
+ghost use Rattle.sender.specs.Outer.{outer, outerLoaded, outerFramed};
 ghost use Rattle.sender.specs.Frame.{Ready, Fit, endOf, endsOf, nextFrom, rowAt, nulls, framePackets, closed, closedAll, frameTests, handOf, framed, frameBytes, frameFor, storeAfter, outFor};
 
 // The three queues, whose turn it is to get a spare, and the next continuity index of each id, filler last.
+// The unsent bytes of each queue stand at the front of its part of the store: hence the name.
 #[repr(C)]
-pub struct Sender {
+pub struct Front {
     pub q: [Queue; 3],
     pub turn: usize,
     pub index: [u8; 4],
+}
+
+// What callers hold from one call to the next.
+#[repr(C)]
+pub struct Sender {
+    pub front: Front,
 }
 
 // The number, and the state after the call.
@@ -47,15 +55,15 @@ pub struct Ends {
     pub index: u8,
 }
 
-impl Sender {
+impl Front {
     // No unit, turn 0, indexes 0.
-    pub fn fresh() -> Sender
+    fn fresh() -> Front
         ensures { λ r. ⌜ r ≡ fresh ⌝ }
     {
         let a = Queue::fresh();
         let q = [a, a, a];
         let index = [0u8; 4];
-        Sender {
+        Front {
             q: q,
             turn: 0,
             index: index,
@@ -139,7 +147,7 @@ impl Sender {
     }
 
     // A unit that was accepted enters its queue, with its bytes behind the unsent ones of that queue.
-    fn place(self, id: usize, unit: &[u8], store: &mut [u8]) -> Sender
+    fn place(self, id: usize, unit: &[u8], store: &mut [u8]) -> Front
         requires { ⌜ Accepted self id (length (now unit)) (length (now store)) ⌝ }
         ensures { λ r. ⌜ r ≡ loaded self id (length (now (unit .entry))) ⌝ }
         ensures { λ _. ⌜ now (store .exit) ≡ placedIn self id (now (unit .entry)) (now (store .entry)) ⌝ }
@@ -152,26 +160,6 @@ impl Sender {
         let r = q.pushed(n as u16);
         next.q[id] = r;
         next
-    }
-
-    // A unit enters queue id, or is refused and nothing changes. Refused with 13: settings. With 17: the state. With 1: a store of
-    // another length than 12,288, a unit over 65,528 bytes. With 14: a unit that is empty or over 4,096, an id over 2. With 15: no room.
-    pub fn load(self, settings: Settings, store: &mut [u8], id: usize, unit: &[u8]) -> Loaded
-        ensures answer { λ r. ⌜ r ≡ loadFor settings self id (now (unit .entry)) (now (store .entry)) ⌝ }
-        ensures memory { λ _. ⌜ now (store .exit) ≡ storeFor settings self id (now (unit .entry)) (now (store .entry)) ⌝ }
-    {
-        let number = self.load_number(settings, id, unit.len(), store.len());
-        if number != 0 {
-            return Loaded {
-                number: number,
-                next: self,
-            };
-        }
-        let next = self.place(id, unit, store);
-        Loaded {
-            number: 0,
-            next: next,
-        }
     }
 
     // The packets that wait in each queue.
@@ -261,50 +249,7 @@ impl Sender {
         }
         0
     }
-
-    // A frame, where the checks have passed.
-    fn run(self, settings: Settings, store: &mut [u8], out: &mut [u8]) -> Framed
-        requires { ⌜ Fit settings self (length (now store)) (length (now out)) ⌝ }
-        ensures { λ r. ⌜ r ≡ framed settings self ⌝ }
-        ensures { λ _. ⌜ now (store .exit) ≡ closedAll (settings .p) self (handOf settings self .packets) (now (store .entry)) ⌝ }
-        ensures { λ _. ⌜ now (out .exit) ≡ written (now (out .entry)) 0 (frameBytes settings self (now (store .entry))) ⌝ }
-    {
-        let p = settings.p as u8;
-        let h = settings.hand_out(self.waiting(p), self.turn);
-        let got = h.packets;
-        let e = self.write_rows(p, got, h.filler, store, out);
-        close_all(store, e);
-        Framed {
-            number: 0,
-            next: next_state(e, h.turn),
-            packets: got,
-            spares: h.spares,
-            filler: h.filler,
-        }
-    }
-
-    // Writes a frame to the front of the output, or is refused and nothing changes. Refused with 13: settings. With 17: the state. With
-    // 1: a store of another length than 12,288. Last with 1: an output under N (p + 3) bytes.
-    pub fn frame(self, settings: Settings, store: &mut [u8], out: &mut [u8]) -> Framed
-        ensures answer { λ r. ⌜ r ≡ frameFor settings self (now (store .entry)) (now (out .entry)) ⌝ }
-        ensures memory { λ _. ⌜ now (store .exit) ≡ storeAfter settings self (now (store .entry)) (now (out .entry)) ⌝ }
-        ensures output { λ _. ⌜ now (out .exit) ≡ outFor settings self (now (store .entry)) (now (out .entry)) ⌝ }
-    {
-        let number = self.frame_number(settings, store.len(), out.len());
-        if number != 0 {
-            let none = Three { a: 0, b: 0, c: 0 };
-            return Framed {
-                number: number,
-                next: self,
-                packets: none,
-                spares: 0,
-                filler: 0,
-            };
-        }
-        self.run(settings, store, out)
-    }
 }
-
 // The unsent bytes of queue id, moved to the front of its part of the store.
 fn close(store: &mut [u8], id: usize, o: Out)
     requires { ⌜ (id < 3) × (o .at ≤ 8190) ⌝ }
@@ -328,7 +273,7 @@ fn close_all(store: &mut [u8], e: Ends)
 }
 
 // The state after a frame.
-fn next_state(e: Ends, turn: usize) -> Sender
+fn next_state(e: Ends, turn: usize) -> Front
     ensures { λ r. ⌜ r ≡ nextFrom e turn ⌝ }
 {
     let a = e.a;
@@ -339,9 +284,88 @@ fn next_state(e: Ends, turn: usize) -> Sender
     let qc = c.q;
     let q = [qa, qb, qc];
     let index = [a.index, b.index, c.index, e.index];
-    Sender {
+    Front {
         q: q,
         turn: turn,
         index: index,
+    }
+}
+
+impl Sender {
+    // No unit, turn 0, indexes 0.
+    pub fn fresh() -> Sender
+        ensures { λ r. ⌜ r ≡ outer fresh ⌝ }
+    {
+        let front = Front::fresh();
+        Sender { front: front }
+    }
+
+    // A unit enters queue id, or is refused and nothing changes. Refused with 13: settings. With 17: the state. With 1: a store of
+    // another length than 12,288, a unit over 65,528 bytes. With 14: a unit that is empty or over 4,096, an id over 2. With 15: no room.
+    pub fn load(self, settings: Settings, store: &mut [u8], id: usize, unit: &[u8]) -> Loaded
+        ensures answer { λ r. ⌜ r ≡ outerLoaded (loadFor settings (self .front) id (now (unit .entry)) (now (store .entry))) ⌝ }
+        ensures memory { λ _. ⌜ now (store .exit) ≡ storeFor settings (self .front) id (now (unit .entry)) (now (store .entry)) ⌝ }
+    {
+        let front = self.front;
+        let number = front.load_number(settings, id, unit.len(), store.len());
+        if number != 0 {
+            return Loaded {
+                number: number,
+                next: self,
+            };
+        }
+        let placed = front.place(id, unit, store);
+        let next = Sender { front: placed };
+        Loaded {
+            number: 0,
+            next: next,
+        }
+    }
+
+    // A frame, where the checks have passed.
+    fn run(self, settings: Settings, store: &mut [u8], out: &mut [u8]) -> Framed
+        requires { ⌜ Fit settings (self .front) (length (now store)) (length (now out)) ⌝ }
+        ensures { λ r. ⌜ r ≡ outerFramed (framed settings (self .front)) ⌝ }
+        ensures { λ _. ⌜ now (store .exit) ≡ closedAll (settings .p) (self .front) (handOf settings (self .front) .packets) (now (store .entry)) ⌝ }
+        ensures { λ _. ⌜ now (out .exit) ≡ written (now (out .entry)) 0 (frameBytes settings (self .front) (now (store .entry))) ⌝ }
+    {
+        let p = settings.p as u8;
+        let front = self.front;
+        let h = settings.hand_out(front.waiting(p), front.turn);
+        let got = h.packets;
+        let e = front.write_rows(p, got, h.filler, store, out);
+        close_all(store, e);
+        let next = Sender {
+            front: next_state(e, h.turn),
+        };
+        Framed {
+            number: 0,
+            next: next,
+            packets: got,
+            spares: h.spares,
+            filler: h.filler,
+        }
+    }
+
+    // Writes a frame to the front of the output, or is refused and nothing changes. Refused with 13: settings. With 17: the state. With
+    // 1: a store of another length than 12,288. Last with 1: an output under N (p + 3) bytes.
+    pub fn frame(self, settings: Settings, store: &mut [u8], out: &mut [u8]) -> Framed
+        ensures answer { λ r. ⌜ r ≡ outerFramed (frameFor settings (self .front) (now (store .entry)) (now (out .entry))) ⌝ }
+        ensures memory { λ _. ⌜ now (store .exit) ≡ storeAfter settings (self .front) (now (store .entry)) (now (out .entry)) ⌝ }
+        ensures output { λ _. ⌜ now (out .exit) ≡ outFor settings (self .front) (now (store .entry)) (now (out .entry)) ⌝ }
+    {
+        let front = self.front;
+        let number = front.frame_number(settings, store.len(), out.len());
+        if number != 0 {
+            let none = Three { a: 0, b: 0, c: 0 };
+            return Framed {
+                number: number,
+                next: self,
+                packets: none,
+                spares: 0,
+                filler: 0,
+            };
+        }
+        self.run(settings, store, out)
     }
 }

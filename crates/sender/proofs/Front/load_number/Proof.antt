@@ -1,9 +1,9 @@
--- `sender::Sender::load_number` meets its contract. Assumes nothing.
+-- `sender::Front::load_number` meets its contract. Assumes nothing.
 use borrow.Author.Needs.{needs}
 use native.Mathlib.Omega.{arith}
 use Rattle.sender.proofs.Loading.{no-13, p-fits, no-17, no-1, no-1-unit, no-14-empty, no-14-long, no-14-id, no-15, no-0}
-use Rattle.sender.proofs.Sender.load_number.Statement.{statement}
-use Rattle.sender.proofs.Sender.load_number.Tie as tie
+use Rattle.sender.proofs.Front.load_number.Statement.{statement}
+use Rattle.sender.proofs.Front.load_number.Tie as tie
 
 check-requires : tie.Need-check-requires
 check-requires c κs = search needs

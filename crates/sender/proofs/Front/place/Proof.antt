@@ -1,8 +1,8 @@
--- `sender::Sender::place` meets its contract. Assumes nothing.
+-- `sender::Front::place` meets its contract. Assumes nothing.
 use borrow.Author.Needs.{needs}
 use Rattle.sender.proofs.Loading.{place-is}
-use Rattle.sender.proofs.Sender.place.Statement.{statement}
-use Rattle.sender.proofs.Sender.place.Tie as tie
+use Rattle.sender.proofs.Front.place.Statement.{statement}
+use Rattle.sender.proofs.Front.place.Tie as tie
 
 mul-q : tie.Need-mul-q
 mul-q c = search needs

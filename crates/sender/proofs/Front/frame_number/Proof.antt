@@ -1,10 +1,10 @@
--- `sender::Sender::frame_number` meets its contract. Assumes nothing.
+-- `sender::Front::frame_number` meets its contract. Assumes nothing.
 use native.Mathlib.Omega.{arith}
 use borrow.Author.Needs.{needs}
 use Rattle.sender.proofs.Loading.{p-fits}
 use Rattle.sender.proofs.Framing.{no-13, product-in, no-17, no-1, no-1-late, no-0}
-use Rattle.sender.proofs.Sender.frame_number.Statement.{statement}
-use Rattle.sender.proofs.Sender.frame_number.Tie as tie
+use Rattle.sender.proofs.Front.frame_number.Statement.{statement}
+use Rattle.sender.proofs.Front.frame_number.Tie as tie
 
 check-requires : tie.Need-check-requires
 check-requires c κs = search needs

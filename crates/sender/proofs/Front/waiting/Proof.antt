@@ -1,8 +1,8 @@
--- `sender::Sender::waiting` meets its contract. Assumes nothing.
+-- `sender::Front::waiting` meets its contract. Assumes nothing.
 use borrow.Author.Needs.{needs}
 use Rattle.sender.specs.State.{waitingOf}
-use Rattle.sender.proofs.Sender.waiting.Statement.{statement}
-use Rattle.sender.proofs.Sender.waiting.Tie as tie
+use Rattle.sender.proofs.Front.waiting.Statement.{statement}
+use Rattle.sender.proofs.Front.waiting.Tie as tie
 
 element-copy-out-a : tie.Need-element-copy-out-a
 element-copy-out-a c = search needs

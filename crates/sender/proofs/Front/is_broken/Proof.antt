@@ -1,8 +1,8 @@
--- `sender::Sender::is_broken` meets its contract. Assumes nothing.
+-- `sender::Front::is_broken` meets its contract. Assumes nothing.
 use borrow.Author.Needs.{needs}
 use Rattle.sender.proofs.Faults.{broken-0, broken-1, broken-2, broken-turn, broken-i0, broken-i1, broken-i2, broken-rest}
-use Rattle.sender.proofs.Sender.is_broken.Statement.{statement}
-use Rattle.sender.proofs.Sender.is_broken.Tie as tie
+use Rattle.sender.proofs.Front.is_broken.Statement.{statement}
+use Rattle.sender.proofs.Front.is_broken.Tie as tie
 
 element-copy-out-a : tie.Need-element-copy-out-a
 element-copy-out-a c = search needs
