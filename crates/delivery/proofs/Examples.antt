@@ -16,12 +16,13 @@ use Rattle.queue.specs.Queue.{addUp, packets, unsent, waiting, lengths, anyEmpt
 use Rattle.row.specs.Row.{headLen, dropFirst, popped, packetAt, stepped, steps, outs}
 use Rattle.sender.specs.State.{fresh, brokenState, putQueue, waitingOf}
 use Rattle.sender.specs.Load.{full, loadTests, loadNumber, loaded, placedIn, loadFor, storeFor}
-use Rattle.sender.specs.Frame.{handOf, rowAt, nulls, framePackets, frameTests, frameNumber, frameBytes, outFor}
+use Rattle.sender.specs.Frame.{handOf, rowAt, nulls, framePackets, frameTests, frameNumber, framed, frameFor, frameBytes, outFor}
 use Rattle.receiver.specs.Link.{kept, nullOf, baseOf, joins, adds, completes, fateOf, linkWith, linkAfter, brokenLink}
 use Rattle.receiver.specs.Receiver as receives
-use Rattle.demand.specs.Run.{Act, load, frame, after}
+use Rattle.demand.specs.Bytes.{split}
+use Rattle.demand.specs.Run.{Act, load, frame, freshDesk, after, answer, answers}
+use Rattle.demand.specs.Log.{events, log, gather, packetsOf, sentOf}
 use Rattle.delivery.specs.Delivered.{freshEar, hear, unitIn, unitBy, deliveredOf}
-use Rattle.delivery.specs.Sent.{split, sentBy, sentIn, freshDesk}
 
 abbrev settings : Settings
 settings = record { p = 4; n = 3; share = record { a = 0; b = 1; c = 0 }; ceiling = record { a = 1; b = 2; c = 1 } }
@@ -34,8 +35,8 @@ three =
     (0x90 ∷ 1 ∷ 2 ∷ 3 ∷ 4 ∷ 0xc5 ∷ 0x7a ∷ []) ∷ (0x59 ∷ 2 ∷ 5 ∷ 6 ∷ 0 ∷ 0xff ∷ 0x83 ∷ []) ∷ (0xf8 ∷ 0 ∷ 0 ∷ 0 ∷ 0 ∷ 0xd3 ∷ 0x88 ∷ []) ∷ []
 
 -- two packets of id 1 and a null packet
-pub packets-sent : sentIn acts (freshDesk (replicate 12288 0)) ≡ three
-unfolding written bytesOf shift feed bitsOf bitsOfAll crcOf unfit settingsTests settingsFor give free giveFirst giveOne spread handOut taker takers countOf spareIds planFor handFor headOf dataOf plainOf sealed encode addUp packets unsent waiting lengths anyEmpty anyOver broken pushed headLen dropFirst popped packetAt stepped steps outs fresh brokenState putQueue waitingOf full loadTests loadNumber loaded placedIn loadFor storeFor handOf rowAt nulls framePackets frameTests frameNumber frameBytes outFor after split sentBy sentIn
+pub packets-sent : sentOf (log acts (freshDesk (replicate 12288 0))) ≡ three
+unfolding written bytesOf shift feed bitsOf bitsOfAll crcOf unfit settingsTests settingsFor give free giveFirst giveOne spread handOut taker takers countOf spareIds planFor handFor headOf dataOf plainOf sealed encode addUp packets unsent waiting lengths anyEmpty anyOver broken pushed headLen dropFirst popped packetAt stepped steps outs fresh brokenState putQueue waitingOf full loadTests loadNumber loaded placedIn loadFor storeFor handOf rowAt nulls framePackets frameTests frameNumber frameBytes frameFor framed outFor after split answer answers events gather packetsOf
 packets-sent = refl
 
 -- and the unit again

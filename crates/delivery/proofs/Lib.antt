@@ -2,11 +2,8 @@ pub mod Hear
 pub mod Step
 pub mod Lines
 pub mod Passing
-pub mod Numbered
-pub mod Accepted
 pub mod Lists
 pub mod Come
-pub mod Soon
 pub mod Resumed
 pub mod Loss
 pub mod Examples
@@ -14,3 +11,5 @@ pub mod Rejoined
 pub mod Left
 pub mod Filler
 pub mod Gap
+pub mod Soon
+pub mod Delivery

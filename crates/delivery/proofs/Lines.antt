@@ -1,34 +1,18 @@
 -- Packets one behind the other: each id's line takes those of its own, whatever comes between. Assumes nothing.
-use Prim.Native.Nat.{ℕ, zero, suc, _+_, _%_}
+use Prim.Native.Nat.{ℕ}
 use mathlib.Core.Path.{_≡_, refl, sym, ap, ap₂, _∙_, subst}
 use mathlib.Core.List.{List, [], _∷_, _++_, append-assoc, append-nil}
 use mathlib.Core.Bool.{Bool, true, false}
-use native.Mathlib.Omega.{arith}
 use borrow.Author.Tests.{eqb-true, eqb-false}
 use lib.Dec.{eqb}
-use lib.ListN.{length}
 use Rattle.laws.specs.Pick.{pick}
-use Rattle.packet.specs.Packet.{Chunk, Packet, decode}
+use Rattle.packet.specs.Packet.{Packet, decode}
 use Rattle.packet.specs.Calls.{checkFor}
 use Rattle.receiver.specs.Line.{Line, lineAfter, unitsBy}
 use Rattle.delivery.specs.Delivered.{Ear, lineAt, hear, hearAll, unitBy, deliveredOf}
-use Rattle.delivery.specs.Lines.{readable, own, lineThrough, unitsThrough, indexAfter, numbered}
+use Rattle.demand.specs.Bytes.{readable, own}
+use Rattle.delivery.specs.Lines.{lineThrough, unitsThrough}
 use Rattle.delivery.proofs.Hear.{EarOk, came, refused-same, refused-none}
-
--- ---- lists of packets
-pub own-append : (id : ℕ) (ks js : List Packet) → own id (ks ++ js) ≡ own id ks ++ own id js
-unfolding own
-own-append id [] js = refl
-own-append id (k ∷ ks) js =
-    ap (λ (l : List Packet). pick (eqb id (k .id)) (k ∷ []) [] ++ l) (own-append id ks js)
-    ∙ sym (append-assoc (pick (eqb id (k .id)) (k ∷ []) []) (own id ks) (own id js))
-
-pub readable-append : (p : ℕ) (ss ts : List (List ℕ)) → readable p (ss ++ ts) ≡ readable p ss ++ readable p ts
-unfolding readable
-readable-append p [] ts = refl
-readable-append p (s ∷ ss) ts =
-    ap (λ (l : List Packet). pick (eqb (checkFor p s) 0) (decode p s ∷ []) [] ++ l) (readable-append p ss ts)
-    ∙ sym (append-assoc (pick (eqb (checkFor p s) 0) (decode p s ∷ []) []) (readable p ss) (readable p ts))
 
 pub through-append : (l : Line) (ks js : List Packet) → lineThrough l (ks ++ js) ≡ lineThrough (lineThrough l ks) js
 unfolding lineThrough
@@ -42,29 +26,6 @@ units-append l (k ∷ ks) js =
     let m = lineAfter l (k .index) (k .chunk) in
     ap (λ (us : List (List ℕ)). unitsBy l (k .index) (k .chunk) ++ us) (units-append m ks js)
     ∙ sym (append-assoc (unitsBy l (k .index) (k .chunk)) (unitsThrough m ks) (unitsThrough (lineThrough m ks) js))
-
--- ---- indexes
-pub index-next : (n i : ℕ) → indexAfter n ((i + 1) % 8) ≡ indexAfter (suc n) i
-unfolding indexAfter
-index-next zero i = refl
-index-next (suc n) i = ap (λ (m : ℕ). (m + 1) % 8) (index-next n i)
-
-pub index-add : (n m i : ℕ) → indexAfter (n + m) i ≡ indexAfter m (indexAfter n i)
-unfolding indexAfter
-index-add n zero i = let z : n + 0 ≡ n = omega arith in ap (λ (k : ℕ). indexAfter k i) z
-index-add n (suc m) i = let z : n + suc m ≡ suc (n + m) = omega arith in ap (λ (k : ℕ). indexAfter k i) z ∙ ap (λ (k : ℕ). (k + 1) % 8) (index-add n m i)
-
-pub numbered-append : (id i : ℕ) (cs ds : List Chunk) → numbered id i (cs ++ ds) ≡ numbered id i cs ++ numbered id (indexAfter (length cs) i) ds
-unfolding numbered indexAfter
-numbered-append id i [] ds = refl
-numbered-append id i (c ∷ cs) ds =
-    ap (λ (l : List Packet). record { id = id; index = i; chunk = c } ∷ l)
-    (numbered-append id ((i + 1) % 8) cs ds ∙ ap (λ (n : ℕ). numbered id ((i + 1) % 8) cs ++ numbered id n ds) (index-next (length cs) i))
-
-pub numbered-length : (id i : ℕ) (cs : List Chunk) → length (numbered id i cs) ≡ length cs
-unfolding numbered
-numbered-length id i [] = refl
-numbered-length id i (c ∷ cs) = ap suc (numbered-length id ((i + 1) % 8) cs)
 
 -- ---- what the receiver does with byte strings, by what those of id among them say
 pub record Heard (p id : ℕ) (e : Ear) (ss : List (List ℕ)) : Type 0 where

@@ -10,22 +10,23 @@ use lib.ListN.{length, take, drop, length-append}
 use lib.Seq.{take-at, drop-at, drop-drop}
 use Rattle.laws.specs.Pick.{pick}
 use Rattle.packet.specs.Packet.{Chunk, Packet}
-use Rattle.queue.specs.Send.{got}
 use Rattle.row.specs.Content.{chunkOf, restOf, begunOf, rests, begunAfter, chunks}
 use Rattle.receiver.specs.Link.{kept, nullOf, adds, linkWith, linkAfter}
 use Rattle.receiver.specs.Line.{Line, lineAfter}
-use Rattle.demand.specs.Run.{Act, Steady, history, acceptedIn}
+use Rattle.demand.specs.Bytes.{readable, own, ofId, indexAfter, numbered}
+use Rattle.demand.specs.Log.{Event, acceptedOf, sentOf}
+use Rattle.demand.specs.Stream.{Fair, countOf, Stream}
+use Rattle.demand.proofs.Packets.{of-append, index-add, numbered-length}
+use Rattle.demand.proofs.Chunks.{chunks-length, rests-add, begun-add}
 use Rattle.delivery.specs.Delivered.{freshEar, deliveredOf}
-use Rattle.delivery.specs.Lines.{readable, own, lineThrough, unitsThrough, indexAfter, numbered}
-use Rattle.delivery.specs.Flow.{Fair}
-use Rattle.delivery.specs.Sent.{sentIn, freshDesk, deliveredIn}
-use Rattle.delivery.specs.Loss.{Stretch, sentOver, cameOver, ofId, Short, begins, ends, within, uncut}
+use Rattle.delivery.specs.Lines.{lineThrough, unitsThrough}
+use Rattle.delivery.specs.Whole.{deliveredIn}
+use Rattle.delivery.specs.Loss.{Stretch, sentOver, cameOver, Short, begins, ends, within, uncut}
 use Rattle.delivery.proofs.Hear.{fresh-ok}
-use Rattle.delivery.proofs.Lines.{own-append, readable-append, through-append, units-append, index-add, numbered-length, heard}
+use Rattle.delivery.proofs.Lines.{through-append, units-append, heard}
 use Rattle.delivery.proofs.Lists.{middle}
-use Rattle.delivery.proofs.Passing.{idle, chunks-length, packets-more}
-use Rattle.delivery.proofs.Accepted.{fair-run}
-use Rattle.delivery.proofs.Come.{fresh-line, packets-are}
+use Rattle.delivery.proofs.Passing.{idle, packets-more}
+use Rattle.delivery.proofs.Come.{fresh-line}
 use Rattle.delivery.proofs.Resumed.{fromHere, resumed}
 
 -- ---- indexes
@@ -62,16 +63,6 @@ not-kept l i j h e f = rw (h, e, ne-eqb i j f) (go (l .link .begun))
 
 -- ---- the packets of a queue, the first n and then the others
 module _ (p id : ℕ) where
-  pub rests-add : (n m : ℕ) (us : List (List ℕ)) → rests p (n + m) us ≡ rests p m (rests p n us)
-  unfolding rests
-  rests-add n zero us = let z : n + 0 ≡ n = omega arith in ap (λ (k : ℕ). rests p k us) z
-  rests-add n (suc m) us = let z : n + suc m ≡ suc (n + m) = omega arith in ap (λ (k : ℕ). rests p k us) z ∙ ap (restOf p) (rests-add n m us)
-
-  begun-add : (n m : ℕ) (b : Bool) (us : List (List ℕ)) → begunAfter p (n + m) b us ≡ begunAfter p m (begunAfter p n b us) (rests p n us)
-  unfolding begunAfter
-  begun-add n zero b us = let z : n + 0 ≡ n = omega arith in ap (λ (k : ℕ). begunAfter p k b us) z
-  begun-add n (suc m) b us = let z : n + suc m ≡ suc (n + m) = omega arith in ap (λ (k : ℕ). begunAfter p k b us) z ∙ ap (begunOf p) (rests-add n m us)
-
   packets-add : (i n m : ℕ) (b : Bool) (us : List (List ℕ))
       → numbered id i (chunks p (n + m) b us) ≡ numbered id i (chunks p n b us) ++ numbered id (indexAfter n i) (chunks p m (begunAfter p n b us) (rests p n us))
   unfolding chunks numbered
@@ -85,7 +76,7 @@ module _ (p id : ℕ) where
       ap (λ (k : ℕ). numbered id i (chunks p k b us)) z
       ∙ packets-more p id i (n + m) b us
       ∙ ap₂ (λ (l : List Packet) (k : Packet). l ++ (k ∷ [])) (packets-add i n m b us)
-      (ap₂ (λ (x : ℕ) (y : Chunk). record { id = id; index = x; chunk = y }) (index-add n m i) (ap₂ (chunkOf p) (begun-add n m b us) (rests-add n m us)))
+      (ap₂ (λ (x : ℕ) (y : Chunk). record { id = id; index = x; chunk = y }) (index-add n m i) (ap₂ (chunkOf p) (begun-add p n m b us) (rests-add p n m us)))
       ∙ append-assoc (numbered id i (chunks p n b us)) (numbered id j (chunks p m c vs)) (k ∷ [])
       ∙ ap (λ (l : List Packet). numbered id i (chunks p n b us) ++ l) (sym (packets-more p id j m c vs))
 
@@ -150,9 +141,6 @@ fair-drop zero us f = f
 fair-drop (suc n) [] f = f
 fair-drop (suc n) (u ∷ us) f = fair-drop n us (record { some = f .some .1; fit = f .fit .1 })
 
-pub of-append : (p id : ℕ) (ss ts : List (List ℕ)) → ofId p id (ss ++ ts) ≡ ofId p id ss ++ ofId p id ts
-of-append p id ss ts = ap (own id) (readable-append p ss ts) ∙ own-append id (readable p ss) (readable p ts)
-
 -- ---- the packets that carry the units A from the first on
 module _ (p id : ℕ) (A : List (List ℕ)) (fair : Fair A) where
   -- the first a packets, what is left of A behind them, whether that is begun, and the index then
@@ -199,7 +187,7 @@ module _ (p id : ℕ) (A : List (List ℕ)) (fair : Fair A) where
       → unitsThrough l (next a n) ≡ drop (begins (sent a)) (take (ends (sent (a + n))) A)
   stretch-units a n l h =
       resumed p id n (begun a) (left a) (index a) l (subst Fair (sym (here-is a)) (fair-drop (begins (sent a)) A fair)) h
-      ∙ ap₂ (λ (us : List (List ℕ)) (m : ℕ). take (length us - m) us) (here-is a) (ap length (sym (rests-add p id a n A)) ∙ left-count (a + n))
+      ∙ ap₂ (λ (us : List (List ℕ)) (m : ℕ). take (length us - m) us) (here-is a) (ap length (sym (rests-add p a n A)) ∙ left-count (a + n))
       ∙ middle (begins (sent a)) (ends (sent (a + n))) A
 
   within-is : (before ss : List (List ℕ)) (a n : ℕ) → ofId p id before ≡ sent a → ofId p id ss ≡ next a n
@@ -227,7 +215,7 @@ module _ (p id : ℕ) (A : List (List ℕ)) (fair : Fair A) where
   next-add : (a n m : ℕ) → numbered id (indexAfter n (index a)) (chunks p m (begunAfter p n (begun a) (left a)) (rests p n (left a))) ≡ next (a + n) m
   next-add a n m =
       ap₂ (λ (i : ℕ) (cs : List Chunk). numbered id i cs) (sym (index-add a n 0))
-      (ap₂ (λ (b : Bool) (us : List (List ℕ)). chunks p m b us) (sym (begun-add p id a n false A)) (sym (rests-add p id a n A)))
+      (ap₂ (λ (b : Bool) (us : List (List ℕ)). chunks p m b us) (sym (begun-add p a n false A)) (sym (rests-add p a n A)))
 
   survive : (ts : List Stretch) (last before : List (List ℕ)) (a n : ℕ) (l : Line) → ofId p id before ≡ sent a → ofId p id (sentOver ts last) ≡ next a n
       → (begun a ≡ true → kept (l .link) (index a) ≡ false) → Short p id ts
@@ -268,23 +256,24 @@ unfolding kept
 idle-kept i = refl
 
 -- ---- the theorem
--- Packets of a run from fresh, given to a fresh receiver: it began to listen after `start` was sent, and then in each gap one to seven packets
--- of id were lost. The units of id delivered are those that no gap cut, in order, byte for byte
-pub uncut-come : (p id : ℕ) (acts : List Act) (store buffer : List ℕ) → id < 3 → length store ≡ 12288 → length buffer ≡ 16384 → Steady p acts
-    → (start : List (List ℕ)) (ts : List Stretch) (last : List (List ℕ)) → sentIn acts (freshDesk store) ≡ start ++ sentOver ts last → Short p id ts
-    → deliveredOf p id (freshEar buffer) (cameOver ts last) ≡ uncut p id (acceptedIn id acts (freshDesk store)) start ts last
-uncut-come p id acts store buffer h hs hb st start ts last e short =
-    let A = acceptedIn id acts (freshDesk store) in
-    let f : ofId p id start ++ ofId p id (sentOver ts last) ≡ numbered id 0 (chunks p (got (history id acts (freshDesk store))) false A) =
-    sym (ap (ofId p id) e ∙ of-append p id start (sentOver ts last)) ∙ packets-are p id acts store h hs st in
-    let x = apart p id (ofId p id start) (ofId p id (sentOver ts last)) 0 (got (history id acts (freshDesk store))) false A f in
+-- Packets of a run given to a fresh receiver: it began to listen after `start` was sent, and then in each gap one to seven packets of id were
+-- lost. The units of id delivered are those that no gap cut, in order, byte for byte
+pub uncut-come : (p : ℕ) (es : List Event) (buffer : List ℕ) → Stream p es → length buffer ≡ 16384 → (id : ℕ) → id < 3
+    → (start : List (List ℕ)) (ts : List Stretch) (last : List (List ℕ)) → sentOf es ≡ start ++ sentOver ts last → Short p id ts
+    → deliveredOf p id (freshEar buffer) (cameOver ts last) ≡ uncut p id (acceptedOf id es) start ts last
+uncut-come p es buffer s hb id h start ts last e short =
+    let A = acceptedOf id es in
+    let n = countOf p id es in
+    let f : ofId p id start ++ ofId p id (sentOver ts last) ≡ numbered id 0 (chunks p n false A) =
+    sym (ap (ofId p id) e ∙ of-append p id start (sentOver ts last)) ∙ s .units id h in
+    let x = apart p id (ofId p id start) (ofId p id (sentOver ts last)) 0 n false A f in
     heard p id (freshEar buffer) (cameOver ts last) (fresh-ok buffer hb) .units
     ∙ ap (λ (l : Line). unitsThrough l (ofId p id (cameOver ts last))) (fresh-line buffer id)
-    ∙ survive p id A (fair-run id acts (freshDesk store)) ts last start (length (ofId p id start)) (length (ofId p id (sentOver ts last))) idle (x .first) (x .second)
+    ∙ survive p id A (s .fair id) ts last start (length (ofId p id start)) (length (ofId p id (sentOver ts last))) idle (x .first) (x .second)
     (λ b. idle-kept (indexAfter (length (ofId p id start)) 0)) short
 
 -- with nothing lost: the units whose last packet was sent
-pub ended-come : (p id : ℕ) (acts : List Act) (store buffer : List ℕ) → id < 3 → length store ≡ 12288 → length buffer ≡ 16384 → Steady p acts
-    → deliveredIn p id acts store buffer ≡ take (ends (ofId p id (sentIn acts (freshDesk store)))) (acceptedIn id acts (freshDesk store))
+pub ended-come : (p : ℕ) (es : List Event) (buffer : List ℕ) → Stream p es → length buffer ≡ 16384 → (id : ℕ) → id < 3
+    → deliveredIn p id es buffer ≡ take (ends (ofId p id (sentOf es))) (acceptedOf id es)
 unfolding sentOver cameOver uncut within begins readable own
-ended-come p id acts store buffer h hs hb st = uncut-come p id acts store buffer h hs hb st [] [] (sentIn acts (freshDesk store)) refl tt
+ended-come p es buffer s hb id h = uncut-come p es buffer s hb id h [] [] (sentOf es) refl tt

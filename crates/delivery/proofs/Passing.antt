@@ -3,20 +3,19 @@ use Prim.Native.Nat.{ℕ, zero, suc, _+_, _%_}
 use mathlib.Core.Path.{_≡_, refl, sym, ap, ap₂, _∙_, subst}
 use mathlib.Core.List.{List, [], _∷_, _++_, append-assoc, append-nil}
 use mathlib.Core.Bool.{Bool, false, true≢false}
-use native.Mathlib.Omega.{arith}
-use lib.ListN.{length, length-append}
+use lib.ListN.{length}
 use Rattle.row.specs.Content.{chunkOf, restOf, begunOf, rests, begunAfter, chunks}
 use Rattle.receiver.specs.Link.{noLink}
 use Rattle.receiver.specs.Line.{Line, lineAfter, unitsBy}
-use Rattle.delivery.specs.Flow.{wholes, AllFit, Fair, Linked}
-use Rattle.delivery.specs.Lines.{lineThrough, unitsThrough, indexAfter, numbered}
+use Rattle.demand.specs.Bytes.{indexAfter, numbered}
+use Rattle.demand.specs.Stream.{AllFit, Fair}
+use Rattle.demand.proofs.Packets.{numbered-append}
+use Rattle.demand.proofs.Chunks.{chunks-length}
+use Rattle.delivery.specs.Whole.{wholes}
+use Rattle.delivery.specs.Flow.{Linked}
+use Rattle.delivery.specs.Lines.{lineThrough, unitsThrough}
 use Rattle.delivery.proofs.Step.{passed}
-use Rattle.delivery.proofs.Lines.{through-append, units-append, numbered-append}
-
-pub chunks-length : (p n : ℕ) (b : Bool) (us : List (List ℕ)) → length (chunks p n b us) ≡ n
-unfolding chunks
-chunks-length p zero b us = refl
-chunks-length p (suc n) b us = length-append (chunks p n b us) (chunkOf p (begunAfter p n b us) (rests p n us) ∷ []) ∙ omega (arith, chunks-length p n b us)
+use Rattle.delivery.proofs.Lines.{through-append, units-append}
 
 -- the first n of them, and the next one
 pub packets-more : (p id i n : ℕ) (b : Bool) (us : List (List ℕ))

@@ -16,12 +16,12 @@ use Rattle.receiver.specs.declared.Link.{Link}
 use Rattle.receiver.specs.Link.{brokenLink, noLink}
 use Rattle.receiver.specs.Receiver.{linkOf, broken}
 use Rattle.delivery.specs.Delivered.{Ear, lineAt, deliveredOf}
-use Rattle.delivery.specs.Lines.{unitsThrough, numbered}
-use Rattle.delivery.specs.Flow.{Fair}
-use Rattle.delivery.specs.Loss.{ofId}
+use Rattle.demand.specs.Bytes.{ofId, numbered}
+use Rattle.demand.specs.Stream.{Fair}
+use Rattle.demand.proofs.Chunks.{rests-lengths}
+use Rattle.delivery.specs.Lines.{unitsThrough}
 use Rattle.delivery.proofs.Hear.{LinkOk, EarOk}
 use Rattle.delivery.proofs.Lines.{heard}
-use Rattle.delivery.proofs.Accepted.{rests-lengths}
 use Rattle.delivery.proofs.Resumed.{whole-from-any}
 
 -- ---- a receiver that is not refused with 17

@@ -12,8 +12,10 @@ use Rattle.packet.specs.Packet.{Chunk, nothing}
 use Rattle.row.specs.Content.{chunkOf, restOf, begunOf, rests, begunAfter, chunks}
 use Rattle.receiver.specs.Link.{kept, nullOf, baseOf, joins, adds, linkWith, linkAfter, completes}
 use Rattle.receiver.specs.Line.{Line, grown, lineAfter, unitsBy}
-use Rattle.delivery.specs.Flow.{wholes, Fair}
-use Rattle.delivery.specs.Lines.{lineThrough, unitsThrough, numbered}
+use Rattle.demand.specs.Bytes.{numbered}
+use Rattle.demand.specs.Stream.{Fair}
+use Rattle.delivery.specs.Whole.{wholes}
+use Rattle.delivery.specs.Lines.{lineThrough, unitsThrough}
 use Rattle.delivery.proofs.Step.{null-some, null-more}
 use Rattle.delivery.proofs.Passing.{idle, idle-linked, wholes-idle, wholes-length, gone}
 use Rattle.delivery.proofs.Lists.{front}

@@ -1,117 +1,106 @@
--- C6 with C3: when a unit is delivered. Assumes nothing.
-use Prim.Native.Nat.{ℕ, zero, suc, _+_, _-_, _<_, _≤_}
-use mathlib.Core.Path.{_≡_, refl, sym, ap, ap₂, _∙_}
-use mathlib.Core.List.{List, [], _∷_, _++_}
-use mathlib.Core.Bool.{Bool, true, false}
+-- C6 with C3: when a unit has come. Assumes nothing.
+use Prim.Native.Nat.{ℕ, suc, _+_, _-_, _<_, _≤_}
+use mathlib.Core.Path.{_≡_, refl, sym, ap, ap₂, _∙_, subst}
+use mathlib.Core.List.{List, [], _∷_, _++_, append-assoc, append-nil, map}
+use mathlib.Core.Bool.{Bool, true}
 use native.Mathlib.Omega.{arith}
 use borrow.Author.Tests.{eq-eqb}
-use lib.Dec.{leb}
-use lib.ListN.{length, take, length-append, length-map}
-use lib.Seq.{take-at, take-take, length-take-le}
+use lib.Dec.{eqb}
+use lib.ListN.{length, take, length-append}
+use lib.Seq.{take-at, take-take}
 use Rattle.laws.specs.Pick.{pick}
 use Rattle.hand.specs.declared.Settings.{Settings}
-use Rattle.queue.specs.Queue.{units}
-use Rattle.queue.specs.Send.{one, send, later, got, shares}
-use Rattle.queue.proofs.Sending.{ceil}
-use Rattle.sender.specs.State.{queueOf}
-use Rattle.demand.specs.Run.{Act, load, Desk, settingsOf, numberOf, after, run, Steady, history, acceptedBy, acceptedIn, waitingIn, framesOf, Standing}
-use Rattle.demand.proofs.Good.{Good, fresh-good, run-good}
-use Rattle.demand.proofs.Demand.{wholly-sent-by-shares, wholly-sent-in-frames}
-use Rattle.delivery.specs.Sent.{freshDesk, deliveredIn}
-use Rattle.delivery.specs.Whole.{whollySent}
-use Rattle.delivery.proofs.Accepted.{run-append, accepted-append, later-run}
+use Rattle.packet.specs.Packet.{Chunk, Packet}
+use Rattle.queue.specs.Send.{waits, AllPos}
+use Rattle.row.specs.Content.{rests}
+use Rattle.demand.specs.Bytes.{ofId, saying}
+use Rattle.demand.specs.Run.{load, Answer}
+use Rattle.demand.specs.Log.{Event, gather, unitFor, acceptedOf, packetsOf, sentOf, leftOf, waitingAt}
+use Rattle.demand.specs.Condition.{piecesOf, Ends}
+use Rattle.demand.specs.Stream.{AllSome, countOf, Stream}
+use Rattle.demand.proofs.Packets.{of-append}
+use Rattle.demand.proofs.Seen.{gather-append}
+use Rattle.demand.proofs.Drained.{left-waits, drained-past}
+use Rattle.delivery.specs.Whole.{whollySent, deliveredIn}
 use Rattle.delivery.proofs.Come.{wholly-sent-come}
 
--- ---- sending brings no units
-one-length : (p : ℕ) (xs : List ℕ) → length (one p xs) ≤ length xs
-unfolding one
-one-length p [] = omega arith
-one-length p (x ∷ xs) = go (leb x p)
-  where
-    go : (b : Bool) → length (pick b xs ((x - p) ∷ xs)) ≤ suc (length xs)
-    go true = omega arith
-    go false = omega arith
+some-front : (us vs : List (List ℕ)) → AllSome (us ++ vs) → AllPos (map length us)
+some-front [] vs a = tt
+some-front (u ∷ us) vs a = (a .0, some-front us vs (a .1))
 
-send-length : (p n : ℕ) (xs : List ℕ) → length (send p n xs) ≤ length xs
-unfolding send
-send-length p zero xs = omega arith
-send-length p (suc n) xs = omega (arith, one-length p (send p n xs), send-length p n xs)
+saying-length : (ks : List Packet) → length (saying ks) ≡ length ks
+unfolding saying
+saying-length [] = refl
+saying-length (k ∷ ks) = ap suc (saying-length ks)
 
-steady-append : (p : ℕ) (acts more : List Act) → Steady p acts → Steady p more → Steady p (acts ++ more)
-steady-append p [] more a b = b
-steady-append p (c ∷ acts) more a b = (a .0, steady-append p acts more (a .1) b)
+front-of : (a b : List (List ℕ)) (n : ℕ) → n ≤ length b → take (length a) (take (length (a ++ b) - n) (a ++ b)) ≡ a
+front-of a b n l = take-take (length a) (length (a ++ b) - n) (a ++ b) (omega (arith, length-append a b)) ∙ take-at a b (length a) refl
 
--- ---- once only units that were accepted later are in the queue, all those accepted before are delivered
-module _ (p id : ℕ) (acts more : List Act) (store buffer : List ℕ) (hp : 1 ≤ p) (h : id < 3) (hs : length store ≡ 12288) (hb : length buffer ≡ 16384)
-    (st : Steady p acts) (sm : Steady p more) where
-  abbrev X : Desk
-  X = freshDesk store
+-- a unit that was accepted, and the calls next after it
+module _ (p : ℕ) (before : List Event) (g : Settings) (id : ℕ) (unit : List ℕ) (b : Answer) (next : List Event) (z : b .number ≡ 0) where
+  abbrev here : Event
+  here = record { act = load g id unit; answer = b }
 
-  -- when the second run begins
-  abbrev Y : Desk
-  Y = run acts X
+  abbrev all : List Event
+  all = before ++ (here ∷ next)
 
-  good : Good p Y
-  good = run-good p acts X st (fresh-good p store hs)
+  abbrev A : List (List ℕ)
+  A = acceptedOf id before ++ (unit ∷ [])
 
-  front : (a b : List (List ℕ)) (n : ℕ) → n ≤ length b → take (length a) (take (length (a ++ b) - n) (a ++ b)) ≡ a
-  front a b n l = take-take (length a) (length (a ++ b) - n) (a ++ b) (omega (arith, length-append a b)) ∙ take-at a b (length a) refl
+  -- the load brings its unit, and no packet
+  brings : (es : List Event) → acceptedOf id (here ∷ es) ≡ unit ∷ acceptedOf id es
+  unfolding gather unitFor
+  brings es =
+      ap₂ (λ (c d : Bool). pick c (pick d (unit ∷ []) []) [] ++ acceptedOf id es) (eq-eqb (b .number) 0 z) (eq-eqb id id refl)
 
-  only-later : (n : ℕ) → units (queueOf (run more Y .state) id) ≡ send p n (later (history id more Y))
-      → take (length (acceptedIn id acts X)) (deliveredIn p id (acts ++ more) store buffer) ≡ acceptedIn id acts X
-  unfolding whollySent
-  only-later n e =
-      let q = queueOf (run more Y .state) id in
-      let A = acceptedIn id acts X in
-      let B = acceptedIn id more Y in
-      let s = run-good p more Y sm good .queues id h in
-      let c : q .count ≤ length B =
-      omega (
-        arith,
-        length-take-le (q .count) (q .left) (omega (arith, s .count, s .eight)),
-        ap length e,
-        send-length p n (later (history id more Y)),
-        ap length (later-run id more Y),
-        length-map B length,
-      ) in
-      ap (take (length A))
-      (wholly-sent-come p id (acts ++ more) store buffer h hs hb (steady-append p acts more st sm)
-      ∙ ap₂ (λ (us : List (List ℕ)) (y : Desk). take (length us - queueOf (y .state) id .count) us) (accepted-append id acts more X) (run-append acts more X))
-      ∙ front A B (q .count) c
+  sends-none : (es : List Event) → sentOf (here ∷ es) ≡ sentOf es
+  unfolding gather packetsOf
+  sends-none es = ap (λ (c : Bool). pick c [] [] ++ sentOf es) (eq-eqb (b .number) 0 z)
 
-  -- whatever is called: once the shares of the frames add up to the packets that waited, all units accepted by then are delivered
-  pub delivered-by-shares : waitingIn p id Y ≤ shares (history id more Y)
-      → take (length (acceptedIn id acts X)) (deliveredIn p id (acts ++ more) store buffer) ≡ acceptedIn id acts X
-  delivered-by-shares e = only-later (got (history id more Y) - waitingIn p id Y) (wholly-sent-by-shares p id more Y hp h sm good e)
+  accepted-all : acceptedOf id all ≡ A ++ acceptedOf id next
+  accepted-all =
+      gather-append (unitFor id) before (here ∷ next)
+      ∙ ap (λ (l : List (List ℕ)). acceptedOf id before ++ l) (brings next)
+      ∙ sym (append-assoc (acceptedOf id before) (unit ∷ []) (acceptedOf id next))
 
-  -- with a standing share s: within the next k / s frames, rounded up, for k packets that waited
-  pub delivered-in-frames : (s : ℕ) → 1 ≤ s → Standing id s more → ceil (waitingIn p id Y) s ≤ framesOf more Y
-      → take (length (acceptedIn id acts X)) (deliveredIn p id (acts ++ more) store buffer) ≡ acceptedIn id acts X
-  delivered-in-frames s ls sh e = only-later (got (history id more Y) - waitingIn p id Y) (wholly-sent-in-frames p id s more Y hp h sm good ls sh e)
+  accepted-then : acceptedOf id (before ++ (here ∷ [])) ≡ A
+  unfolding gather
+  accepted-then = gather-append (unitFor id) before (here ∷ []) ∙ ap (λ (l : List (List ℕ)). acceptedOf id before ++ l) (brings [])
 
--- ---- one unit
-steady-front : (p : ℕ) (acts : List Act) (a : Act) → Steady p acts → settingsOf a .p ≡ p → Steady p (acts ++ (a ∷ []))
-steady-front p acts a st e = steady-append p acts (a ∷ []) st (e, tt)
+  count-all : countOf p id all ≡ countOf p id before + countOf p id next
+  count-all =
+      ap (λ (ss : List (List ℕ)). length (ofId p id ss)) (gather-append packetsOf before (here ∷ next) ∙ ap (λ (l : List (List ℕ)). sentOf before ++ l) (sends-none next))
+      ∙ ap length (of-append p id (sentOf before) (sentOf next))
+      ∙ length-append (ofId p id (sentOf before)) (ofId p id (sentOf next))
 
-accepted-last : (id : ℕ) (acts : List Act) (g : Settings) (unit : List ℕ) (x : Desk) → numberOf (load g id unit) (run acts x) ≡ 0
-    → acceptedIn id (acts ++ (load g id unit ∷ [])) x ≡ acceptedIn id acts x ++ (unit ∷ [])
-unfolding acceptedIn acceptedBy numberOf
-accepted-last id acts g unit x e =
-    accepted-append id acts (load g id unit ∷ []) x
-    ∙ ap (λ (l : List (List ℕ)). acceptedIn id acts x ++ l) (simp (e, eq-eqb id id refl))
+  count-then : countOf p id (before ++ (here ∷ [])) ≡ countOf p id before
+  unfolding gather
+  count-then =
+      ap (λ (ss : List (List ℕ)). length (ofId p id ss))
+      (gather-append packetsOf before (here ∷ []) ∙ ap (λ (l : List (List ℕ)). sentOf before ++ l) (sends-none []) ∙ append-nil (sentOf before))
 
--- a unit that was accepted when, with it, k packets of its queue waited, and share s for its queue in the frames since then: it
--- is delivered within the next k / s of them, rounded up, next after the units of its queue that were accepted before it
-pub unit-in-frames : (p id s : ℕ) (acts : List Act) (g : Settings) (unit : List ℕ) (more : List Act) (store buffer : List ℕ)
-    → 1 ≤ p → id < 3 → 1 ≤ s → length store ≡ 12288 → length buffer ≡ 16384 → Steady p acts → g .p ≡ p → Steady p more
-    → numberOf (load g id unit) (run acts (freshDesk store)) ≡ 0
-    → Standing id s more → ceil (waitingIn p id (run (acts ++ (load g id unit ∷ [])) (freshDesk store))) s ≤ framesOf more (run (acts ++ (load g id unit ∷ [])) (freshDesk store))
-    → take (length (acceptedIn id acts (freshDesk store)) + 1) (deliveredIn p id ((acts ++ (load g id unit ∷ [])) ++ more) store buffer)
-    ≡ acceptedIn id acts (freshDesk store) ++ (unit ∷ [])
-unit-in-frames p id s acts g unit more store buffer hp h ls hs hb st e sm z sh f =
-    let a = accepted-last id acts g unit (freshDesk store) z in
-    let n : length (acceptedIn id acts (freshDesk store)) + 1 ≡ length (acceptedIn id (acts ++ (load g id unit ∷ [])) (freshDesk store)) =
-    sym (ap length a ∙ length-append (acceptedIn id acts (freshDesk store)) (unit ∷ [])) in
-    ap (λ (m : ℕ). take m (deliveredIn p id ((acts ++ (load g id unit ∷ [])) ++ more) store buffer)) n
-    ∙ delivered-in-frames p id (acts ++ (load g id unit ∷ [])) more store buffer hp h hs hb (steady-front p acts (load g id unit) st e) sm s ls sh f
-    ∙ a
+  -- once as many packets of its queue are written as waited, it has come
+  pub has-come : Stream p all → id < 3 → (buffer : List ℕ) → length buffer ≡ 16384
+      → Ends p unit (waitingAt p id (before ++ (here ∷ []))) (saying (ofId p id (sentOf next)))
+      → take (length (acceptedOf id before) + 1) (deliveredIn p id all buffer) ≡ acceptedOf id before ++ (unit ∷ [])
+  unfolding whollySent leftOf waitingAt
+  has-come s h buffer hb e =
+      let B = acceptedOf id next in
+      let n0 = countOf p id before in
+      let n1 = countOf p id next in
+      let n = countOf p id all in
+      let lp : 1 ≤ p = s .low id (omega (arith, ap length accepted-all, length-append A B, length-append (acceptedOf id before) (unit ∷ []))) in
+      let pos : AllPos (map length A) = some-front A B (subst AllSome accepted-all (s .fair id .some)) in
+      let W = waits p (map length A) in
+      let k : waits p (map length (rests p (countOf p id (before ++ (here ∷ []))) (acceptedOf id (before ++ (here ∷ []))))) ≡ W - n0 =
+      ap₂ (λ (i : ℕ) (us : List (List ℕ)). waits p (map length (rests p i us))) count-then accepted-then ∙ left-waits p lp A pos n0 in
+      let f = e .front in
+      let t = piecesOf p unit in
+      let r = e .behind in
+      let l : n1 ≡ length f + (length t + length r) =
+      sym (saying-length (ofId p id (sentOf next))) ∙ ap length (e .there) ∙ length-append f (t ++ r) ∙ ap (λ (i : ℕ). length f + i) (length-append t r) in
+      let past : length (rests p n (A ++ B)) ≤ length B = drained-past p lp A B n pos (omega (arith, count-all, e .place)) in
+      let la : length (acceptedOf id before) + 1 ≡ length A = sym (length-append (acceptedOf id before) (unit ∷ [])) in
+      ap₂ (λ (i : ℕ) (us : List (List ℕ)). take i us) la (wholly-sent-come p all buffer s hb id h)
+      ∙ ap (λ (us : List (List ℕ)). take (length A) (take (length us - length (rests p n us)) us)) accepted-all
+      ∙ front-of A B (length (rests p n (A ++ B))) past

@@ -13,7 +13,9 @@ use Rattle.packet.specs.Packet.{Chunk, nothing}
 use Rattle.row.specs.Content.{chunkOf, restOf, begunOf}
 use Rattle.receiver.specs.Link.{kept, nullOf, baseOf, joins, adds, linkWith, linkAfter, completes}
 use Rattle.receiver.specs.Line.{Line, grown, lineAfter, unitsBy}
-use Rattle.delivery.specs.Flow.{wholes, AllFit, Linked}
+use Rattle.demand.specs.Stream.{AllFit}
+use Rattle.delivery.specs.Whole.{wholes}
+use Rattle.delivery.specs.Flow.{Linked}
 
 -- a packet that is not null, of n bytes, and whose index is the next one
 record Fine (l : Line) (i : ℕ) (b t : Bool) (n : ℕ) : Type 0 where

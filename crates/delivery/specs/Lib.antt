@@ -1,6 +1,6 @@
 pub mod Delivered
-pub mod Lines
-pub mod Flow
-pub mod Sent
 pub mod Whole
 pub mod Loss
+pub mod Delivery
+pub mod Lines
+pub mod Flow

@@ -5,7 +5,7 @@ use mathlib.Core.List.{List, [], _∷_, _++_}
 use lib.ListN.{length, take, drop}
 use Rattle.laws.specs.Pick.{pick}
 use Rattle.packet.specs.Packet.{Packet}
-use Rattle.delivery.specs.Lines.{readable, own}
+use Rattle.demand.specs.Bytes.{ofId}
 
 -- what was sent and came, then a gap: what was sent in it, and what came of that or in its place
 pub record Stretch : Type 0 where
@@ -21,10 +21,6 @@ sentOver (t ∷ ts) last = t .whole ++ (t .gap ++ sentOver ts last)
 unfoldable pub cameOver : List Stretch → List (List ℕ) → List (List ℕ)
 cameOver [] last = last
 cameOver (t ∷ ts) last = t .whole ++ (t .instead ++ cameOver ts last)
-
--- the packets of id in them
-abbrev pub ofId : ℕ → ℕ → List (List ℕ) → List Packet
-ofId p id ss = own id (readable p ss)
 
 -- in each gap 1 to 7 packets of id were sent, and none came; in front of each gap one came. What is in the place of others does not matter:
 -- damaged packets, or those of other ids

@@ -1,24 +1,24 @@
--- The units of queue id over a run of calls: wholly sent, or not yet. Assumes nothing.
+-- The units of an id over a run, of its calls and what each answered: wholly sent, delivered, or not yet. Assumes nothing.
 use Prim.Native.Nat.{ℕ, _-_}
-use mathlib.Core.List.{List}
+use mathlib.Core.List.{List, [], _∷_, _++_}
 use lib.ListN.{length, take}
-use Rattle.queue.specs.Send.{got}
-use Rattle.row.specs.Content.{rests}
-use Rattle.sender.specs.State.{queueOf}
-use Rattle.demand.specs.Run.{Act, Desk, run, history, acceptedIn}
-use Rattle.delivery.specs.Delivered.{lineAt, freshEar, hearAll}
-use Rattle.delivery.specs.Flow.{wholes}
-use Rattle.delivery.specs.Sent.{sentIn, freshDesk}
+use Rattle.receiver.specs.Line.{Line}
+use Rattle.demand.specs.Log.{Event, acceptedOf, sentOf, leftOf}
+use Rattle.delivery.specs.Delivered.{lineAt, freshEar, hearAll, deliveredOf}
 
--- those accepted, but for those that the state still has
-unfoldable pub whollySent : ℕ → List Act → Desk → List (List ℕ)
-whollySent id acts x = take (length (acceptedIn id acts x) - queueOf (run acts x .state) id .count) (acceptedIn id acts x)
+-- wholly sent: those accepted, but for those of which bytes are left
+unfoldable pub whollySent : ℕ → ℕ → List Event → List (List ℕ)
+whollySent p id es = take (length (acceptedOf id es) - length (leftOf p id es)) (acceptedOf id es)
 
--- the bytes left of the others: what was accepted, less what the packets handed out have taken
-unfoldable pub leftIn : ℕ → ℕ → List Act → Desk → List (List ℕ)
-leftIn p id acts x = rests p (got (history id acts x)) (acceptedIn id acts x)
+-- delivered, where every packet was given in order to a fresh receiver
+abbrev pub deliveredIn : ℕ → ℕ → List Event → List ℕ → List (List ℕ)
+deliveredIn p id es buffer = deliveredOf p id (freshEar buffer) (sentOf es)
 
--- the others whole: behind the bytes of the first that the receiver has, those that are left of it
-abbrev pub pendingIn : ℕ → ℕ → List Act → List ℕ → List ℕ → List (List ℕ)
-pendingIn p id acts store buffer =
-    wholes (lineAt (hearAll p (freshEar buffer) (sentIn acts (freshDesk store))) id) (leftIn p id acts (freshDesk store))
+-- unfinished units, whole: what the receiver holds of the first, and what is left of it
+unfoldable pub wholes : Line → List (List ℕ) → List (List ℕ)
+wholes l [] = []
+wholes l (u ∷ us) = (l .bytes ++ u) ∷ us
+
+-- not yet delivered
+abbrev pub pendingIn : ℕ → ℕ → List Event → List ℕ → List (List ℕ)
+pendingIn p id es buffer = wholes (lineAt (hearAll p (freshEar buffer) (sentOf es)) id) (leftOf p id es)

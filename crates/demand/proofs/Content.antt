@@ -19,7 +19,7 @@ use Rattle.row.specs.Content.{cut, contentOf, begunIn, chunkOf, restOf, begunOf
 use Rattle.row.specs.declared.Out.{Out}
 use Rattle.row.proofs.Taken.{pop-at}
 use Rattle.row.proofs.Steps.{sound-in, whole-steps}
-use Rattle.demand.proofs.Demand.{steps-units}
+use Rattle.demand.proofs.Served.{steps-units}
 use Rattle.demand.proofs.Rows.{chunkAt, rowChunks}
 
 -- ---- lists

@@ -1,7 +1,7 @@
 -- A written frame holds the packets that it reports (C2, in the bytes): read packet by packet it is the rows of queues 0, 1, 2, each of
--- its own id, and then filler. Assumes nothing.
-use Prim.Native.Nat.{ℕ, zero, suc, _+_, _<_, _≤_}
-use mathlib.Core.Path.{_≡_, refl, sym, ap, ap₂, _∙_, subst}
+-- its own id, and then filler; none of them is refused. Assumes nothing.
+use Prim.Native.Nat.{ℕ, zero, suc, _+_, _%_, _<_, _≤_}
+use mathlib.Core.Path.{_≡_, refl, sym, ap, ap₂, _∙_}
 use mathlib.Core.List.{List, [], _∷_, _++_, append-assoc, append-nil}
 use mathlib.Core.Bool.{Bool, true, false}
 use native.Mathlib.Omega.{arith}
@@ -18,29 +18,21 @@ use Rattle.packet.specs.Calls.{checkFor}
 use Rattle.packet.proofs.Round.{Says, round}
 use Rattle.queue.specs.Queue.{noUnits}
 use Rattle.queue.proofs.Keep.{none-sound}
-use Rattle.row.specs.Row.{headLen, packetAt, steps, outs, startOf, Whole}
+use Rattle.row.specs.Row.{headLen, packetAt, stepped, steps, outs, startOf, Whole}
 use Rattle.row.specs.declared.Out.{Out}
 use Rattle.row.proofs.Steps.{at-fits, whole-of, whole-steps}
 use Rattle.sender.specs.State.{indexOf, outOf, partOf, waitingOf}
-use Rattle.sender.specs.Frame.{handOf, rowAt, framePackets, frameBytes}
+use Rattle.sender.specs.Frame.{handOf, rowAt, framePackets, frameBytes, endsOf, nextFrom, framed}
 use Rattle.sender.specs.declared.Front.{Front}
 use Rattle.sender.proofs.Framing.{null-outs}
 use Rattle.demand.specs.Run.{Desk}
-use Rattle.demand.specs.Bytes.{packetsIn, AllRight, saying}
+use Rattle.demand.specs.Bytes.{split, readable, own, indexAfter, numbered}
 use Rattle.demand.proofs.Good.{Good, out-whole}
+use Rattle.demand.proofs.Packets.{own-append, numbered-append, numbered-length, own-numbered}
 
--- ---- one packet in front of others
-module _ (p : ℕ) (k : Packet) (y : List ℕ) (t : Says p k y) where
-  front-says : (m : ℕ) (rest : List ℕ) → packetsIn p (suc m) (y ++ rest) ≡ k ∷ packetsIn p m rest
-  unfolding packetsIn
-  front-says m rest =
-      ap₂ (λ (a : List ℕ) (b : List ℕ). decode p a ∷ packetsIn p m b) (take-at y rest (p + 3) (t .len)) (drop-at y rest (p + 3) (t .len))
-      ∙ ap (λ (a : Packet). a ∷ packetsIn p m rest) (t .says)
-
-  front-right : (m : ℕ) (rest : List ℕ) → AllRight p m rest → AllRight p (suc m) (y ++ rest)
-  unfolding AllRight
-  front-right m rest r =
-      (ap (checkFor p) (take-at y rest (p + 3) (t .len)) ∙ t .right, subst (AllRight p m) (sym (drop-at y rest (p + 3) (t .len))) r)
+-- the n packets of p data bytes that s begins with
+abbrev packetsIn : ℕ → ℕ → List ℕ → List Packet
+packetsIn p n s = readable p (split (p + 3) n s)
 
 -- ---- a row
 -- what the next packet says
@@ -48,73 +40,62 @@ abbrev pub chunkAt : ℕ → List ℕ → Out → Chunk
 chunkAt p region o =
     record { first = eqb (o .q .sent) 0; last = leb (getD (o .q .left) 0 0) p; body = take (headLen p (o .q)) (drop (o .at) region) }
 
-said : ℕ → ℕ → List ℕ → Out → Packet
-said p id region o = record { id = id; index = o .index; chunk = chunkAt p region o }
-
-rowSaid : ℕ → ℕ → List ℕ → ℕ → Out → List Packet
-rowSaid p id region zero o = []
-rowSaid p id region (suc n) o = rowSaid p id region n o ++ (said p id region (steps p n o) ∷ [])
+abbrev pub packetFor : ℕ → ℕ → List ℕ → Out → Packet
+packetFor p id region o = record { id = id; index = o .index; chunk = chunkAt p region o }
 
 unfoldable pub rowChunks : ℕ → List ℕ → ℕ → Out → List Chunk
 rowChunks p region zero o = []
 rowChunks p region (suc n) o = rowChunks p region n o ++ (chunkAt p region (steps p n o) ∷ [])
 
-pub row-count : (p : ℕ) (region : List ℕ) (n : ℕ) (o : Out) → length (rowChunks p region n o) ≡ n
+row-count : (p : ℕ) (region : List ℕ) (n : ℕ) (o : Out) → length (rowChunks p region n o) ≡ n
 unfolding rowChunks
 row-count p region zero o = refl
 row-count p region (suc n) o = length-append (rowChunks p region n o) (chunkAt p region (steps p n o) ∷ []) ∙ omega (arith, row-count p region n o)
 
+index-steps : (p n : ℕ) (o : Out) → steps p n o .index ≡ indexAfter n (o .index)
+unfolding steps stepped indexAfter
+index-steps p zero o = refl
+index-steps p (suc n) o = ap (λ (i : ℕ). (i + 1) % 8) (index-steps p n o)
+
+pub row-more : (p id : ℕ) (region : List ℕ) (n : ℕ) (o : Out)
+    → numbered id (o .index) (rowChunks p region (suc n) o) ≡ numbered id (o .index) (rowChunks p region n o) ++ (packetFor p id region (steps p n o) ∷ [])
+unfolding rowChunks numbered
+row-more p id region n o =
+    let c = chunkAt p region (steps p n o) in
+    let a = numbered id (o .index) (rowChunks p region n o) in
+    numbered-append id (o .index) (rowChunks p region n o) (c ∷ [])
+    ∙ ap (λ (i : ℕ). a ++ (record { id = id; index = i; chunk = c } ∷ []))
+    (ap (λ (m : ℕ). indexAfter m (o .index)) (row-count p region n o) ∙ sym (index-steps p n o))
+
+-- one packet in front of others
+front-says : (p : ℕ) (k : Packet) (y : List ℕ) → Says p k y → (m : ℕ) (rest : List ℕ) → packetsIn p (suc m) (y ++ rest) ≡ k ∷ packetsIn p m rest
+unfolding readable split
+front-says p k y t m rest =
+    ap₂ (λ (a b : List ℕ). pick (eqb (checkFor p a) 0) (decode p a ∷ []) [] ++ packetsIn p m b) (take-at y rest (p + 3) (t .len)) (drop-at y rest (p + 3) (t .len))
+    ∙ ap₂ (λ (n : ℕ) (a : Packet). pick (eqb n 0) (a ∷ []) [] ++ packetsIn p m rest) (t .right) (t .says)
+
 module _ (p id : ℕ) (region : List ℕ) (lo : 1 ≤ p) (hi : p ≤ 255) (hid : id < 4) where
-  at-says : (o : Out) → o .index < 8 → Says p (said p id region o) (packetAt p id region o)
-  unfolding packetAt said
-  at-says o h = round p (said p id region o) (at-fits p id o region lo hi hid h)
+  at-says : (o : Out) → o .index < 8 → Says p (packetFor p id region o) (packetAt p id region o)
+  unfolding packetAt
+  at-says o h = round p (packetFor p id region o) (at-fits p id o region lo hi hid h)
 
   -- the row in front of others
   in-row : (n : ℕ) (o : Out) → Whole p o 4096 → (m : ℕ) (rest : List ℕ)
-      → packetsIn p (n + m) (outs p id region n o ++ rest) ≡ rowSaid p id region n o ++ packetsIn p m rest
-  unfolding outs rowSaid
+      → packetsIn p (n + m) (outs p id region n o ++ rest) ≡ numbered id (o .index) (rowChunks p region n o) ++ packetsIn p m rest
+  unfolding outs rowChunks numbered
   in-row zero o w m rest = let z : 0 + m ≡ m = omega arith in ap (λ (k : ℕ). packetsIn p k rest) z
   in-row (suc n) o w m rest =
       let a = outs p id region n o in
       let y = packetAt p id region (steps p n o) in
-      let k = said p id region (steps p n o) in
+      let k = packetFor p id region (steps p n o) in
+      let row = numbered id (o .index) (rowChunks p region n o) in
       let e = whole-steps p 4096 n o lo w in
       let z : suc n + m ≡ n + suc m = omega arith in
       ap₂ (λ (i : ℕ) (l : List ℕ). packetsIn p i l) z (append-assoc a y rest)
       ∙ in-row n o w (suc m) (y ++ rest)
-      ∙ ap (λ (l : List Packet). rowSaid p id region n o ++ l) (front-says p k y (at-says (steps p n o) (e .index)) m rest)
-      ∙ sym (append-assoc (rowSaid p id region n o) (k ∷ []) (packetsIn p m rest))
-
-  in-row-right : (n : ℕ) (o : Out) → Whole p o 4096 → (m : ℕ) (rest : List ℕ) → AllRight p m rest → AllRight p (n + m) (outs p id region n o ++ rest)
-  unfolding outs
-  in-row-right zero o w m rest r = let z : 0 + m ≡ m = omega arith in subst (λ (k : ℕ). AllRight p k rest) (sym z) r
-  in-row-right (suc n) o w m rest r =
-      let a = outs p id region n o in
-      let y = packetAt p id region (steps p n o) in
-      let e = whole-steps p 4096 n o lo w in
-      let z : suc n + m ≡ n + suc m = omega arith in
-      subst (λ (k : ℕ). AllRight p k ((a ++ y) ++ rest)) (sym z)
-      (subst (AllRight p (n + suc m)) (sym (append-assoc a y rest))
-      (in-row-right n o w (suc m) (y ++ rest) (front-right p (said p id region (steps p n o)) y (at-says (steps p n o) (e .index)) m rest r)))
-
--- ---- the packets of an id
-saying-append : (id : ℕ) (ks js : List Packet) → saying id (ks ++ js) ≡ saying id ks ++ saying id js
-unfolding saying
-saying-append id [] js = refl
-saying-append id (k ∷ ks) js =
-    ap (λ (l : List Chunk). pick (eqb id (k .id)) (k .chunk ∷ []) [] ++ l) (saying-append id ks js)
-    ∙ sym (append-assoc (pick (eqb id (k .id)) (k .chunk ∷ []) []) (saying id ks) (saying id js))
-
-saying-row : (p id j : ℕ) (region : List ℕ) (n : ℕ) (o : Out) (b : Bool) → eqb id j ≡ b → saying id (rowSaid p j region n o) ≡ pick b (rowChunks p region n o) []
-unfolding rowSaid rowChunks saying said
-saying-row p id j region zero o true e = refl
-saying-row p id j region zero o false e = refl
-saying-row p id j region (suc n) o true e =
-    saying-append id (rowSaid p j region n o) (said p j region (steps p n o) ∷ [])
-    ∙ ap₂ (λ (a b : List Chunk). a ++ b) (saying-row p id j region n o true e) (rw e)
-saying-row p id j region (suc n) o false e =
-    saying-append id (rowSaid p j region n o) (said p j region (steps p n o) ∷ [])
-    ∙ ap₂ (λ (a b : List Chunk). a ++ b) (saying-row p id j region n o false e) (rw e)
+      ∙ ap (λ (l : List Packet). row ++ l) (front-says p k y (at-says (steps p n o) (e .index)) m rest)
+      ∙ sym (append-assoc row (k ∷ []) (packetsIn p m rest))
+      ∙ ap (λ (l : List Packet). l ++ packetsIn p m rest) (sym (row-more p id region n o))
 
 -- ---- the frame
 -- what stands behind it in the output does not matter
@@ -128,45 +109,45 @@ module _ (g : Settings) (x : Desk) (k : Good (g .p) x) (al : Allowed g) (rest : 
   abbrev F : ℕ
   F = handOf g S .filler
 
+  abbrev bytes : ℕ → ℕ → List ℕ
+  bytes id n = outs (g .p) id (partOf (x .store) id) n (outOf S id)
+
+  abbrev nulls : List ℕ
+  nulls = outs (g .p) 3 [] F (startOf noUnits (indexOf S 3))
+
   abbrev row : ℕ → ℕ → List Packet
-  row id n = rowSaid (g .p) id (partOf (x .store) id) n (outOf S id)
+  row id n = numbered id (indexOf S id) (rowChunks (g .p) (partOf (x .store) id) n (outOf S id))
 
   abbrev fill : List Packet
-  fill = rowSaid (g .p) 3 [] F (startOf noUnits (indexOf S 3))
+  fill = numbered 3 (indexOf S 3) (rowChunks (g .p) [] F (startOf noUnits (indexOf S 3)))
 
-  sum : N .a + (N .b + (N .c + (F + 0))) ≡ g .n
+  -- what is read of its bytes
+  abbrev pub frameRead : List Packet
+  frameRead = packetsIn (g .p) (g .n) (frameBytes g S (x .store) ++ rest)
+
+  sum : g .n ≡ N .a + (N .b + (N .c + (F + 0)))
   unfolding handOf
   sum = omega (arith, hand-total g (waitingOf (g .p) S) (S .turn) al)
 
   fill-whole : Whole (g .p) (startOf noUnits (indexOf S 3)) 4096
   fill-whole = let i = k .indexes 3 (lit< tt) in whole-of (g .p) 4096 (startOf noUnits (indexOf S 3)) (none-sound (g .p)) (let b = none-sound (g .p) .bytes in omega arith) (omega arith)
 
-  four-rows : List ℕ
-  four-rows =
-      outs (g .p) 0 (partOf (x .store) 0) (N .a) (outOf S 0)
-      ++ (outs (g .p) 1 (partOf (x .store) 1) (N .b) (outOf S 1)
-      ++ (outs (g .p) 2 (partOf (x .store) 2) (N .c) (outOf S 2) ++ (outs (g .p) 3 [] F (startOf noUnits (indexOf S 3)) ++ rest)))
-
-  bytes-are : frameBytes g S (x .store) ++ rest ≡ four-rows
-  unfolding frameBytes framePackets rowAt four-rows
+  bytes-are : frameBytes g S (x .store) ++ rest ≡ bytes 0 (N .a) ++ (bytes 1 (N .b) ++ (bytes 2 (N .c) ++ (nulls ++ rest)))
+  unfolding frameBytes framePackets rowAt
   bytes-are =
       let i = k .indexes 3 (lit< tt) in
-      let r0 = outs (g .p) 0 (partOf (x .store) 0) (N .a) (outOf S 0) in
-      let r1 = outs (g .p) 1 (partOf (x .store) 1) (N .b) (outOf S 1) in
-      let r2 = outs (g .p) 2 (partOf (x .store) 2) (N .c) (outOf S 2) in
-      let r3 = outs (g .p) 3 [] F (startOf noUnits (indexOf S 3)) in
-      ap (λ (l : List ℕ). (((r0 ++ r1) ++ r2) ++ l) ++ rest) (sym (null-outs (g .p) (indexOf S 3) [] (omega arith) F))
-      ∙ append-assoc ((r0 ++ r1) ++ r2) r3 rest
-      ∙ append-assoc (r0 ++ r1) r2 (r3 ++ rest)
-      ∙ append-assoc r0 r1 (r2 ++ (r3 ++ rest))
+      ap (λ (l : List ℕ). (((bytes 0 (N .a) ++ bytes 1 (N .b)) ++ bytes 2 (N .c)) ++ l) ++ rest) (sym (null-outs (g .p) (indexOf S 3) [] (omega arith) F))
+      ∙ append-assoc ((bytes 0 (N .a) ++ bytes 1 (N .b)) ++ bytes 2 (N .c)) nulls rest
+      ∙ append-assoc (bytes 0 (N .a) ++ bytes 1 (N .b)) (bytes 2 (N .c)) (nulls ++ rest)
+      ∙ append-assoc (bytes 0 (N .a)) (bytes 1 (N .b)) (bytes 2 (N .c) ++ (nulls ++ rest))
 
-  frame-packets : packetsIn (g .p) (g .n) (frameBytes g S (x .store) ++ rest) ≡ row 0 (N .a) ++ (row 1 (N .b) ++ (row 2 (N .c) ++ (fill ++ [])))
-  unfolding four-rows packetsIn
+  frame-packets : frameRead ≡ row 0 (N .a) ++ (row 1 (N .b) ++ (row 2 (N .c) ++ (fill ++ [])))
+  unfolding readable split
   frame-packets =
       let p = g .p in
       let lo = al .low in
       let hi = al .high in
-      ap₂ (λ (n : ℕ) (l : List ℕ). packetsIn p n l) (sym sum) bytes-are
+      ap₂ (λ (n : ℕ) (l : List ℕ). packetsIn p n l) sum bytes-are
       ∙ in-row p 0 _ lo hi (lit< tt) (N .a) (outOf S 0) (out-whole p x k 0 (lit< tt)) _ _
       ∙ ap (λ (l : List Packet). row 0 (N .a) ++ l)
       (in-row p 1 _ lo hi (lit< tt) (N .b) (outOf S 1) (out-whole p x k 1 (lit< tt)) _ _
@@ -174,76 +155,41 @@ module _ (g : Settings) (x : Desk) (k : Good (g .p) x) (al : Allowed g) (rest : 
       (in-row p 2 _ lo hi (lit< tt) (N .c) (outOf S 2) (out-whole p x k 2 (lit< tt)) _ _
       ∙ ap (λ (l : List Packet). row 2 (N .c) ++ l) (in-row p 3 [] lo hi (lit< tt) F (startOf noUnits (indexOf S 3)) fill-whole 0 rest)))
 
-  pub frame-right : AllRight (g .p) (g .n) (frameBytes g S (x .store) ++ rest)
-  unfolding four-rows AllRight
-  frame-right =
-      let p = g .p in
-      let lo = al .low in
-      let hi = al .high in
-      subst (λ (n : ℕ). AllRight p n (frameBytes g S (x .store) ++ rest)) sum
-      (subst (AllRight p (N .a + (N .b + (N .c + (F + 0))))) (sym bytes-are)
-      (in-row-right p 0 _ lo hi (lit< tt) (N .a) (outOf S 0) (out-whole p x k 0 (lit< tt)) _ _
-      (in-row-right p 1 _ lo hi (lit< tt) (N .b) (outOf S 1) (out-whole p x k 1 (lit< tt)) _ _
-      (in-row-right p 2 _ lo hi (lit< tt) (N .c) (outOf S 2) (out-whole p x k 2 (lit< tt)) _ _
-      (in-row-right p 3 [] lo hi (lit< tt) F (startOf noUnits (indexOf S 3)) fill-whole 0 rest tt)))))
+  -- those of id, by which of the four rows is its own
+  four : (id : ℕ) (a b c d : Bool) → eqb id 0 ≡ a → eqb id 1 ≡ b → eqb id 2 ≡ c → eqb id 3 ≡ d
+      → own id frameRead ≡ pick a (row 0 (N .a)) [] ++ (pick b (row 1 (N .b)) [] ++ (pick c (row 2 (N .c)) [] ++ (pick d fill [] ++ [])))
+  unfolding own
+  four id a b c d ea eb ec ed =
+      ap (own id) frame-packets
+      ∙ own-append id (row 0 (N .a)) (row 1 (N .b) ++ (row 2 (N .c) ++ (fill ++ [])))
+      ∙ ap₂ (λ (u v : List Packet). u ++ v) (own-numbered id 0 (indexOf S 0) _ a ea)
+      (own-append id (row 1 (N .b)) (row 2 (N .c) ++ (fill ++ []))
+      ∙ ap₂ (λ (u v : List Packet). u ++ v) (own-numbered id 1 (indexOf S 1) _ b eb)
+      (own-append id (row 2 (N .c)) (fill ++ [])
+      ∙ ap₂ (λ (u v : List Packet). u ++ v) (own-numbered id 2 (indexOf S 2) _ c ec)
+      (own-append id fill [] ∙ ap (λ (u : List Packet). u ++ []) (own-numbered id 3 (indexOf S 3) _ d ed))))
 
-  saying-four : (id : ℕ) → saying id (row 0 (N .a) ++ (row 1 (N .b) ++ (row 2 (N .c) ++ (fill ++ []))))
-      ≡ saying id (row 0 (N .a)) ++ (saying id (row 1 (N .b)) ++ (saying id (row 2 (N .c)) ++ (saying id fill ++ [])))
-  unfolding saying
-  saying-four id =
-      saying-append id (row 0 (N .a)) _
-      ∙ ap (λ (l : List Chunk). saying id (row 0 (N .a)) ++ l)
-      (saying-append id (row 1 (N .b)) _
-      ∙ ap (λ (l : List Chunk). saying id (row 1 (N .b)) ++ l)
-      (saying-append id (row 2 (N .c)) _ ∙ ap (λ (l : List Chunk). saying id (row 2 (N .c)) ++ l) (saying-append id fill [])))
+  -- the packets of each id: those of its row, in order
+  pub frame-own : (id : ℕ) → id < 3 → own id frameRead ≡ numbered id (indexOf S id) (rowChunks (g .p) (partOf (x .store) id) (at N id) (outOf S id))
+  frame-own zero h = four 0 true false false false refl refl refl refl ∙ append-nil (row 0 (N .a))
+  frame-own (suc zero) h = four 1 false true false false refl refl refl refl ∙ append-nil (row 1 (N .b))
+  frame-own (suc (suc zero)) h = four 2 false false true false refl refl refl refl ∙ append-nil (row 2 (N .c))
+  frame-own (suc (suc (suc id))) h = absurd (omega arith)
 
-  -- what the packets of each id say: those of its row, in order
-  pub frame-saying : (id : ℕ) → id < 3 → saying id (packetsIn (g .p) (g .n) (frameBytes g S (x .store) ++ rest)) ≡ rowChunks (g .p) (partOf (x .store) id) (at N id) (outOf S id)
-  frame-saying id h = ap (saying id) frame-packets ∙ saying-four id ∙ go id h
-    where
-      go : (id : ℕ) → id < 3 → saying id (row 0 (N .a)) ++ (saying id (row 1 (N .b)) ++ (saying id (row 2 (N .c)) ++ (saying id fill ++ [])))
-          ≡ rowChunks (g .p) (partOf (x .store) id) (at N id) (outOf S id)
-      go zero h =
-          rw (
-            saying-row (g .p) 0 0 (partOf (x .store) 0) (N .a) (outOf S 0) true refl,
-            saying-row (g .p) 0 1 (partOf (x .store) 1) (N .b) (outOf S 1) false refl,
-            saying-row (g .p) 0 2 (partOf (x .store) 2) (N .c) (outOf S 2) false refl,
-            saying-row (g .p) 0 3 [] F (startOf noUnits (indexOf S 3)) false refl,
-          )
-          (append-nil (rowChunks (g .p) (partOf (x .store) 0) (N .a) (outOf S 0)))
-      go (suc zero) h =
-          rw (
-            saying-row (g .p) 1 0 (partOf (x .store) 0) (N .a) (outOf S 0) false refl,
-            saying-row (g .p) 1 1 (partOf (x .store) 1) (N .b) (outOf S 1) true refl,
-            saying-row (g .p) 1 2 (partOf (x .store) 2) (N .c) (outOf S 2) false refl,
-            saying-row (g .p) 1 3 [] F (startOf noUnits (indexOf S 3)) false refl,
-          )
-          (append-nil (rowChunks (g .p) (partOf (x .store) 1) (N .b) (outOf S 1)))
-      go (suc (suc zero)) h =
-          rw (
-            saying-row (g .p) 2 0 (partOf (x .store) 0) (N .a) (outOf S 0) false refl,
-            saying-row (g .p) 2 1 (partOf (x .store) 1) (N .b) (outOf S 1) false refl,
-            saying-row (g .p) 2 2 (partOf (x .store) 2) (N .c) (outOf S 2) true refl,
-            saying-row (g .p) 2 3 [] F (startOf noUnits (indexOf S 3)) false refl,
-          )
-          (append-nil (rowChunks (g .p) (partOf (x .store) 2) (N .c) (outOf S 2)))
-      go (suc (suc (suc id))) h = absurd (omega arith)
-
-  pub filler-saying : saying 3 (packetsIn (g .p) (g .n) (frameBytes g S (x .store) ++ rest)) ≡ rowChunks (g .p) [] F (startOf noUnits (indexOf S 3))
-  filler-saying =
-      ap (saying 3) frame-packets
-      ∙ saying-four 3
-      ∙ rw (
-        saying-row (g .p) 3 0 (partOf (x .store) 0) (N .a) (outOf S 0) false refl,
-        saying-row (g .p) 3 1 (partOf (x .store) 1) (N .b) (outOf S 1) false refl,
-        saying-row (g .p) 3 2 (partOf (x .store) 2) (N .c) (outOf S 2) false refl,
-        saying-row (g .p) 3 3 [] F (startOf noUnits (indexOf S 3)) true refl,
-      )
-      (append-nil (rowChunks (g .p) [] F (startOf noUnits (indexOf S 3))))
+  pub frame-filler : own 3 frameRead ≡ numbered 3 (indexOf S 3) (rowChunks (g .p) [] F (startOf noUnits (indexOf S 3)))
+  frame-filler = four 3 false false false true refl refl refl refl ∙ append-nil fill
 
   -- C2: the packets of each id counted in the written frame are those reported
-  pub counted : (id : ℕ) → id < 3 → length (saying id (packetsIn (g .p) (g .n) (frameBytes g S (x .store) ++ rest))) ≡ at (handOf g S .packets) id
-  counted id h = ap length (frame-saying id h) ∙ row-count (g .p) (partOf (x .store) id) (at N id) (outOf S id)
+  pub counted : (id : ℕ) → id < 3 → length (own id frameRead) ≡ at (handOf g S .packets) id
+  counted id h = ap length (frame-own id h) ∙ numbered-length id (indexOf S id) _ ∙ row-count (g .p) (partOf (x .store) id) (at N id) (outOf S id)
 
-  pub counted-filler : length (saying 3 (packetsIn (g .p) (g .n) (frameBytes g S (x .store) ++ rest))) ≡ handOf g S .filler
-  counted-filler = ap length filler-saying ∙ row-count (g .p) [] F (startOf noUnits (indexOf S 3))
+  pub counted-filler : length (own 3 frameRead) ≡ handOf g S .filler
+  counted-filler = ap length frame-filler ∙ numbered-length 3 (indexOf S 3) _ ∙ row-count (g .p) [] F (startOf noUnits (indexOf S 3))
+
+-- the index that it leaves
+pub frame-index : (g : Settings) (s : Front) (id : ℕ) → id < 3 → indexOf (framed g s .next) id ≡ indexAfter (at (handOf g s .packets) id) (indexOf s id)
+unfolding framed nextFrom endsOf
+frame-index g s zero h = index-steps (g .p) (handOf g s .packets .a) (outOf s 0)
+frame-index g s (suc zero) h = index-steps (g .p) (handOf g s .packets .b) (outOf s 1)
+frame-index g s (suc (suc zero)) h = index-steps (g .p) (handOf g s .packets .c) (outOf s 2)
+frame-index g s (suc (suc (suc id))) h = absurd (omega arith)

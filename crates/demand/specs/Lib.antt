@@ -1,2 +1,6 @@
 pub mod Bytes
 pub mod Run
+pub mod Log
+pub mod Condition
+pub mod Stream
+pub mod Within
