@@ -1,12 +1,11 @@
 -- Delivery holds of every run from the fresh state in which p stands. Assumes nothing.
-use Prim.Native.Nat.{ℕ, _≤_}
+use Prim.Native.Nat.{ℕ}
 use mathlib.Core.Path.{_≡_, sym, _∙_, subst}
 use mathlib.Core.List.{List, _∷_, _++_, append-assoc}
 use lib.ListN.{length}
-use Rattle.queue.specs.Queue.{addUp, same}
 use Rattle.demand.specs.Run.{Act, load, freshDesk}
-use Rattle.demand.specs.Log.{Event, log, Stands, sharesOf}
-use Rattle.demand.specs.Condition.{Taken, waitingWith, SentWithin}
+use Rattle.demand.specs.Log.{Event, log, Stands}
+use Rattle.demand.specs.Condition.{Taken, SentWithin}
 use Rattle.demand.specs.Stream.{Stream}
 use Rattle.demand.proofs.Parts.{parted, stands-front}
 use Rattle.demand.proofs.Condition.{condition, taken-id}

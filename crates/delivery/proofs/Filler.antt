@@ -1,7 +1,7 @@
 -- The packets of id 3 are null packets, and bring no unit. Assumes nothing.
 use Prim.Native.Nat.{ℕ, zero, suc, _+_, _%_}
 use mathlib.Core.Path.{_≡_, refl, ap, ap₂, _∙_}
-use mathlib.Core.List.{List, [], _∷_, _++_}
+use mathlib.Core.List.{List, [], _++_}
 use lib.ListN.{length, replicate}
 use Rattle.packet.specs.Packet.{nothing}
 use Rattle.receiver.specs.Line.{Line, lineAfter}

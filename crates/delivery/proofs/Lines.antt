@@ -5,7 +5,6 @@ use mathlib.Core.List.{List, [], _∷_, _++_, append-assoc, append-nil}
 use mathlib.Core.Bool.{Bool, true, false}
 use borrow.Author.Tests.{eqb-true, eqb-false}
 use lib.Dec.{eqb}
-use Rattle.laws.specs.Pick.{pick}
 use Rattle.packet.specs.Packet.{Packet, decode}
 use Rattle.packet.specs.Calls.{checkFor}
 use Rattle.receiver.specs.Line.{Line, lineAfter, unitsBy}

@@ -1,6 +1,6 @@
 -- One call, seen from queue id: what it sends of the queue's id, and what it leaves. The one bridge from the calls to the theorems over
 -- runs. Assumes nothing.
-use Prim.Native.Nat.{ℕ, _+_, _<_}
+use Prim.Native.Nat.{ℕ, _<_}
 use mathlib.Core.Path.{_≡_, refl, sym, ap, _∙_, subst}
 use mathlib.Core.List.{List, [], _∷_, _++_, append-nil}
 use mathlib.Core.Bool.{Bool, true, false, _&&_, true≢false}

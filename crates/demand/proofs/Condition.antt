@@ -1,41 +1,33 @@
 -- Condition C holds of every run from the fresh state in which p stands. Assumes nothing.
-use Prim.Native.Nat.{ℕ, zero, suc, _+_, _-_, _*_, _<_, _≤_, min}
+use Prim.Native.Nat.{ℕ, zero, suc, _+_, _*_, _<_, _≤_, min}
 use mathlib.Core.Path.{_≡_, refl, sym, ap, ap₂, _∙_, subst}
-use mathlib.Core.List.{List, [], _∷_, _++_, append-assoc, map}
-use mathlib.Core.Bool.{Bool, true, false, not, _||_}
+use mathlib.Core.List.{List, [], _∷_, _++_}
+use mathlib.Core.Bool.{Bool, true, false, _||_}
 use native.Mathlib.Omega.{arith}
-use borrow.Author.Tests.{eq-eqb, le-ltb, ltb-false}
-use lib.Dec.{eqb, ltb, leb}
+use borrow.Author.Tests.{eq-eqb, ltb-false}
+use lib.Dec.{ltb, leb}
 use lib.ListN.{length, replicate}
-use Rattle.laws.specs.Pick.{pick}
-use Rattle.hand.specs.Settings.{at, total, settingsFor, Allowed}
+use Rattle.hand.specs.Settings.{at, total}
 use Rattle.hand.specs.declared.Settings.{Settings}
-use Rattle.packet.specs.Packet.{Chunk}
-use Rattle.queue.specs.Queue.{addUp, same, packets, units, unsent}
-use Rattle.queue.specs.Send.{waits, AllPos, got, shares}
+use Rattle.queue.specs.Queue.{addUp, same, packets, unsent}
+use Rattle.queue.specs.Send.{shares}
 use Rattle.queue.proofs.Sending.{ceil-le}
-use Rattle.row.specs.Content.{begunIn, rests, begunAfter, chunks}
-use Rattle.sender.specs.State.{queueOf, waitingOf, brokenState}
+use Rattle.sender.specs.State.{waitingOf, brokenState}
 use Rattle.sender.specs.Load.{full, loadTests, loadNumber}
 use Rattle.sender.specs.Frame.{handOf}
 use Rattle.sender.proofs.Loading.{passed}
 use Rattle.demand.specs.Bytes.{split, ofId, saying}
-use Rattle.demand.specs.Run.{Act, load, frame, Desk, freshDesk, settingsOf, numberOf, after, run, Answer, answer}
-use Rattle.demand.specs.Log.{Event, log, Stands, gather, packetsOf, shareFor, sentOf, sharesOf, leftOf, waitingAt}
-use Rattle.demand.specs.Condition.{Called, Written, carries, Taken, waitingWith, piecesOf, Ends, SentWithin, over, fullAt, frameRefused, loadRefused, Condition}
-use Rattle.demand.specs.Within.{history, acceptedBy, acceptedIn, sentIn, contentIn, waitingIn}
+use Rattle.demand.specs.Run.{Act, load, frame, Desk, freshDesk, numberOf, after, run, Answer, answer}
+use Rattle.demand.specs.Log.{Event, log, Stands, packetsOf, shareFor, sentOf, sharesOf, waitingAt}
+use Rattle.demand.specs.Condition.{Called, Written, carries, Taken, waitingWith, Ends, SentWithin, fullAt, frameRefused, loadRefused, Condition}
+use Rattle.demand.specs.Within.{history, sentIn, waitingIn}
 use Rattle.demand.proofs.Good.{Good, good-fine, never-17, frame-refused-for}
 use Rattle.demand.proofs.Served.{served-here}
 use Rattle.demand.proofs.Counted.{frame-allowed, carried, carried-filler, frame-sum}
-use Rattle.demand.proofs.Packets.{numbered-saying}
-use Rattle.demand.proofs.Chunks.{chunks-length}
-use Rattle.demand.proofs.Calls.{went}
-use Rattle.demand.proofs.Demand.{pieces, sent-by-shares}
 use Rattle.demand.proofs.Seen.{number-is, sent-seen, shares-seen, taken, taken-gather, taken-steady}
-use Rattle.demand.proofs.Mirror.{Mirror, content-lengths, units-seen, waiting-seen, waiting-three, count-seen}
-use Rattle.demand.proofs.Drained.{whole-behind}
+use Rattle.demand.proofs.Mirror.{Mirror, units-seen, waiting-seen, waiting-three, count-seen}
 use Rattle.demand.proofs.Unit.{unit-sent}
-use Rattle.demand.proofs.Parts.{Here, here, Parted, parted, stands-front}
+use Rattle.demand.proofs.Parts.{Here, here, parted, stands-front}
 
 -- ---- a frame
 module _ (p : ℕ) (es : List Event) (y : Desk) (m : Mirror p es y) (g : Settings) (e : g .p ≡ p) (out : List ℕ) (z : numberOf (frame g out) y ≡ 0) where
@@ -129,10 +121,10 @@ module _ (p : ℕ) (acts : List Act) (store : List ℕ) (hs : length store ≡ 1
   number-at c = sym (number-is (c .act) (at-call c .desk)) ∙ sym (ap (λ (b : Answer). b .number) (at-call c .answered))
 
   module _ (f : Written E) where
-    at-frame : Here p (f .before) (frame (f .g) (f .lent)) (f .answer) (f .behind)
+    pub at-frame : Here p (f .before) (frame (f .g) (f .lent)) (f .answer) (f .behind)
     at-frame = here p acts store hs st (f .before) (frame (f .g) (f .lent)) (f .answer) (f .behind) (f .there)
 
-    zero-at : numberOf (frame (f .g) (f .lent)) (at-frame .desk) ≡ 0
+    pub zero-at : numberOf (frame (f .g) (f .lent)) (at-frame .desk) ≡ 0
     zero-at = sym (number-is (frame (f .g) (f .lent)) (at-frame .desk)) ∙ sym (ap (λ (b : Answer). b .number) (at-frame .answered)) ∙ f .done
 
     count : Answer → ℕ → ℕ

@@ -1,27 +1,26 @@
 -- A frame that was written: what it reports is what stands in its output, by ids (C2). Assumes nothing.
-use Prim.Native.Nat.{ℕ, _+_, _<_, _≤_}
-use mathlib.Core.Path.{_≡_, refl, sym, ap, ap₂, _∙_}
-use mathlib.Core.List.{List, [], _∷_, _++_}
-use mathlib.Core.Bool.{Bool, true}
+use Prim.Native.Nat.{ℕ, _+_, _<_, min}
+use mathlib.Core.Path.{_≡_, ap, _∙_}
+use mathlib.Core.List.{List, _++_}
+use mathlib.Core.Bool.{Bool}
 use native.Mathlib.Omega.{arith}
 use borrow.Author.Tests.{eq-eqb}
-use lib.Dec.{eqb}
 use lib.ListN.{length, drop}
 use Rattle.laws.specs.Pick.{pick}
 use Rattle.laws.specs.Written.{written}
 use Rattle.hand.specs.Settings.{at, total, Allowed}
-use Rattle.hand.specs.Hand.{noThree, planFor, handFor, spareIds}
+use Rattle.hand.specs.Hand.{handFor, countOf, spareIds}
 use Rattle.hand.specs.declared.Three.{Three}
 use Rattle.hand.specs.declared.Settings.{Settings}
 use Rattle.hand.proofs.Allowed.{allowed, allowed-back}
-use Rattle.hand.proofs.Answer.{hand-total}
+use Rattle.hand.proofs.Answer.{hand-total, hand-is}
 use Rattle.hand.proofs.Served.{steps-counted}
 use Rattle.sender.specs.State.{waitingOf}
 use Rattle.sender.specs.Frame.{handOf, frameNumber, frameFor, frameBytes, outFor}
 use Rattle.sender.specs.Frame as sends
 use Rattle.sender.proofs.Framing.{fit-of}
 use Rattle.demand.specs.Bytes.{split, ofId}
-use Rattle.demand.specs.Run.{frame, Desk, numberOf, Answer, answer}
+use Rattle.demand.specs.Run.{frame, Desk, numberOf, answer}
 use Rattle.demand.proofs.Good.{Good}
 use Rattle.demand.proofs.Rows.{counted, counted-filler}
 
@@ -60,6 +59,15 @@ module _ (g : Settings) (out : List ℕ) (y : Desk) (k : Good (g .p) y) (z : num
       × (answer (frame g out) y .spares ≡ handOf g (y .state) .spares)
   unfolding answer numberOf frameFor sends.framed
   reported = let e = eq-eqb (frameNumber g (y .state) (y .store) out) 0 z in (simp e, simp e, simp e)
+
+  -- the steps, by queue
+  pub steps-reported : (id : ℕ) → id < 3
+      → at (handOf g (y .state) .packets) id
+      ≡ min (at (g .share) id) (at (waitingOf (g .p) (y .state)) id) + countOf id (spareIds g (waitingOf (g .p) (y .state)) (y .state .turn))
+  unfolding handOf
+  steps-reported id h =
+      ap (λ (t : Three). at t id) (hand-is g (waitingOf (g .p) (y .state)) (y .state .turn) frame-allowed .0)
+      ∙ steps-counted g (waitingOf (g .p) (y .state)) (y .state .turn) frame-allowed .each id h
 
   pub spares-reported : answer (frame g out) y .spares ≡ length (spareIds g (waitingOf (g .p) (y .state)) (y .state .turn))
   unfolding handOf

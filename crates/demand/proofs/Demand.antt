@@ -18,7 +18,7 @@ use Rattle.demand.specs.Within.{turnOf, history, acceptedBy, acceptedIn,
 use Rattle.demand.proofs.Good.{Good, after-good}
 use Rattle.demand.proofs.Packets.{of-append, numbered-append}
 use Rattle.demand.proofs.Chunks.{chunks-length, rests-add, rests-front, chunks-then}
-use Rattle.demand.proofs.Calls.{Did, Went, went}
+use Rattle.demand.proofs.Calls.{Did, went}
 
 pub got-append : (h h′ : List Turn) → got (h ++ h′) ≡ got h + got h′
 unfolding got

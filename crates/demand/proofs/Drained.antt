@@ -1,11 +1,11 @@
 -- Once as many packets are sent as units take, nothing of them is left, and the unit behind them begins. Assumes nothing.
 use Prim.Native.Nat.{ℕ, zero, suc, _+_, _-_, _<_, _≤_}
-use mathlib.Core.Path.{_≡_, refl, sym, ap, ap₂, _∙_}
+use mathlib.Core.Path.{_≡_, refl, ap, ap₂, _∙_}
 use mathlib.Core.List.{List, [], _∷_, _++_, append-assoc, map}
 use mathlib.Core.Bool.{Bool, true, false, not}
 use native.Mathlib.Omega.{arith}
 use lib.Dec.{leb}
-use lib.ListN.{length, drop, length-map}
+use lib.ListN.{length, drop}
 use Rattle.laws.specs.Pick.{pick}
 use Rattle.packet.specs.Packet.{Chunk}
 use Rattle.queue.specs.Queue.{addUp, packets}

@@ -6,11 +6,10 @@ use mathlib.Core.Bool.{Bool, true, false}
 use native.Mathlib.Omega.{arith}
 use borrow.Author.Tests.{le-leb, eqb-true}
 use lib.Dec.{eqb, leb, lit<}
-use lib.ListN.{length, getD, take, drop, replicate, length-append}
+use lib.ListN.{length, getD, take, drop, replicate}
 use lib.Seq.{drop-nil}
 use Rattle.laws.specs.Pick.{pick}
 use Rattle.laws.specs.Written.{written}
-use Rattle.hand.specs.Settings.{Allowed}
 use Rattle.hand.specs.declared.Settings.{Settings}
 use Rattle.hand.proofs.Allowed.{allowed}
 use Rattle.packet.specs.Packet.{Chunk, Packet, nothing}
@@ -21,7 +20,6 @@ use Rattle.sender.specs.State.{indexOf, putQueue}
 use Rattle.sender.specs.Load.{loadNumber, loadFor}
 use Rattle.sender.specs.Load as loads
 use Rattle.sender.specs.Frame.{handOf, endsOf, nextFrom, framed, frameBytes, frameNumber, frameFor, outFor}
-use Rattle.sender.specs.declared.Front.{Front}
 use Rattle.sender.proofs.Framing.{fit-of}
 use Rattle.demand.specs.Bytes.{readable, own, ofId, indexAfter, numbered}
 use Rattle.demand.specs.Run.{Act, load, frame, Desk, settingsOf, after, Steady}

@@ -10,10 +10,12 @@ pub mod Calls
 pub mod Demand
 pub mod Seen
 pub mod Mirror
+pub mod Turn
 pub mod Drained
 pub mod Unit
 pub mod Parts
 pub mod Counted
 pub mod Condition
+pub mod Reported
 pub mod Filler
 pub mod Stream

@@ -1,20 +1,19 @@
 -- From fresh, where p stands: the state is good, and holds the units that calls and answers show as not wholly sent. Assumes nothing.
-use Prim.Native.Nat.{ℕ, zero, suc, _+_, _-_, _*_, _<_, _≤_}
+use Prim.Native.Nat.{ℕ, zero, suc, _*_, _<_, _≤_}
 use mathlib.Core.Path.{_≡_, refl, sym, ap, ap₂, _∙_, subst}
 use mathlib.Core.List.{List, [], _∷_, _++_, map}
 use mathlib.Core.Bool.{false}
 use native.Mathlib.Omega.{arith}
-use lib.ListN.{length, take, drop, length-drop, length-map}
+use lib.ListN.{length, drop, length-drop, length-map}
 use lib.Seq.{length-take-le}
 use Rattle.hand.specs.Settings.{at}
-use Rattle.hand.specs.declared.Three.{Three}
 use Rattle.queue.specs.Queue.{addUp, same, units, unsent}
 use Rattle.queue.specs.Send.{waits, got}
-use Rattle.row.specs.Content.{cut, contentOf, begunIn, rests, chunks}
+use Rattle.row.specs.Content.{cut, contentOf, begunIn, rests}
 use Rattle.sender.specs.State.{fresh, queueOf, indexOf, partOf, waitingOf}
 use Rattle.demand.specs.Bytes.{ofId}
 use Rattle.demand.specs.Run.{Act, Desk, freshDesk, run, Steady}
-use Rattle.demand.specs.Log.{Event, log, Stands, gather, packetsOf, unitFor, sentOf, acceptedOf, leftOf, waitingAt}
+use Rattle.demand.specs.Log.{Event, log, Stands, packetsOf, unitFor, leftOf, waitingAt}
 use Rattle.demand.specs.Within.{history, acceptedIn, sentIn, contentIn, waitingIn}
 use Rattle.demand.proofs.Good.{Good, fresh-good, run-good}
 use Rattle.demand.proofs.Served.{waits-at}

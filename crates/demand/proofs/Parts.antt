@@ -1,13 +1,15 @@
 -- One call of a run from fresh in which p stands: the calls before it as the state has them, its answer, the calls behind it. Assumes nothing.
-use Prim.Native.Nat.{ℕ, zero, suc, _+_, _-_, _*_, _<_, _≤_, min}
+use Prim.Native.Nat.{ℕ, suc}
 use mathlib.Core.Path.{_≡_, refl, sym, ap, ap₂, _∙_, subst}
 use mathlib.Core.List.{List, [], _∷_, _++_}
 use lib.ListN.{length, drop, getD}
 use native.Mathlib.Omega.{arith}
-use Rattle.demand.specs.Run.{Act, load, frame, Desk, freshDesk, settingsOf, numberOf, after, run, Answer, answer, answers}
+use Rattle.demand.specs.Run.{Act, Desk, freshDesk, settingsOf, after, run, Answer, answer, answers}
 use Rattle.demand.specs.Log.{Event, events, log, Stands}
-use Rattle.demand.proofs.Seen.{eventOf}
+use Rattle.demand.specs.Reported.{turnAt}
+use Rattle.demand.proofs.Seen.{eventOf, log-append, run-append}
 use Rattle.demand.proofs.Mirror.{Mirror, mirror}
+use Rattle.demand.proofs.Turn.{turn-seen}
 
 -- ---- a run in parts
 pub record Parted (acts : List Act) (x : Desk) (es fs : List Event) : Type 0 where
@@ -25,16 +27,6 @@ parted (a ∷ acts) x (e ∷ es) fs q =
     let h : eventOf a x ≡ e = ap (λ (l : List Event). getD l 0 e) q in
     record { first = a ∷ r .first; second = r .second; front = ap₂ (λ (d : Event) (ds : List Event). d ∷ ds) (sym h) (r .front); back = r .back }
 
-pub log-append : (acts more : List Act) (x : Desk) → log (acts ++ more) x ≡ log acts x ++ log more (run acts x)
-unfolding events answers run
-log-append [] more x = refl
-log-append (a ∷ acts) more x = ap (λ (l : List Event). eventOf a x ∷ l) (log-append acts more (after a x))
-
-pub run-append : (acts more : List Act) (x : Desk) → run (acts ++ more) x ≡ run more (run acts x)
-unfolding run
-run-append [] more x = refl
-run-append (a ∷ acts) more x = run-append acts more (after a x)
-
 pub stands-front : (p : ℕ) (es fs : List Event) → Stands p (es ++ fs) → Stands p es
 stands-front p [] fs s = tt
 stands-front p (e ∷ es) fs s = (s .0, stands-front p es fs (s .1))
@@ -47,6 +39,7 @@ stands-back p (e ∷ es) fs s = stands-back p es fs (s .1)
 pub record Here (p : ℕ) (before : List Event) (a : Act) (b : Answer) (behind : List Event) : Type 0 where
   pub desk : Desk
   pub seen : Mirror p before desk
+  pub turn : desk .state .turn ≡ turnAt p before
   pub answered : b ≡ answer a desk
   pub same : b .number ≡ 0 → settingsOf a .p ≡ p
   pub then : Mirror p (before ++ (record { act = a; answer = b } ∷ [])) (after a desk)
@@ -84,6 +77,7 @@ module _ (p : ℕ) (acts : List Act) (store : List ℕ) (hs : length store ≡ 1
           record {
             desk = y;
             seen = subst (λ (es : List Event). Mirror p es y) (sym (r .front)) m;
+            turn = sym (ap (turnAt p) (r .front) ∙ turn-seen p (r .first) store hs (subst (Stands p) (r .front) sf));
             answered = ab;
             same = sb .0;
             then = subst (λ (es : List Event). Mirror p es (after a y)) l (subst (Mirror p (log (r .first ++ (a ∷ [])) X)) (run-append (r .first) (a ∷ []) X) t);

@@ -1,23 +1,20 @@
 -- A run seen from outside beside the state: what its calls and answers show is what the state holds. Assumes nothing.
-use Prim.Native.Nat.{ℕ, zero, suc, _+_, _<_}
-use mathlib.Core.Path.{_≡_, refl, sym, ap, ap₂, _∙_, subst}
+use Prim.Native.Nat.{ℕ, _+_}
+use mathlib.Core.Path.{_≡_, refl, sym, ap, ap₂, _∙_}
 use mathlib.Core.List.{List, [], _∷_, _++_, append-assoc}
-use mathlib.Core.Bool.{Bool, true, false, _&&_}
+use mathlib.Core.Bool.{Bool, true, false}
 use native.Mathlib.Omega.{arith}
 use borrow.Author.Tests.{eqb-true}
 use lib.Dec.{eqb}
 use lib.ListN.{length}
 use Rattle.laws.specs.Pick.{pick}
-use Rattle.hand.specs.Settings.{at}
 use Rattle.hand.specs.Hand.{noThree}
-use Rattle.hand.specs.declared.Settings.{Settings}
 use Rattle.queue.specs.Queue.{addUp, same}
 use Rattle.queue.specs.Send.{Turn, loaded, framed, shares}
 use Rattle.sender.specs.Load.{loadNumber, loadFor, storeFor}
-use Rattle.sender.specs.Frame.{handOf, frameNumber, frameFor, storeAfter, outFor}
+use Rattle.sender.specs.Frame.{frameNumber, frameFor, storeAfter}
 use Rattle.sender.specs.Frame as sends
-use Rattle.demand.specs.Bytes.{split}
-use Rattle.demand.specs.Run.{Act, load, frame, Desk, settingsOf, numberOf, after, run, Steady, Answer, answer, answers}
+use Rattle.demand.specs.Run.{Act, load, frame, Desk, numberOf, after, run, Steady, Answer, answer, answers}
 use Rattle.demand.specs.Log.{Event, events, log, Stands, gather, unitFor, acceptedOf, packetsOf, sentOf, shareFor, sharesOf}
 use Rattle.demand.specs.Within.{turnOf, history, acceptedBy, acceptedIn, sentBy, sentIn}
 
@@ -108,6 +105,17 @@ shares-seen id (a ∷ acts) x =
     sum-append here (sharesOf id (log acts y))
     ∙ ap₂ (λ (u v : ℕ). u + v) e (shares-seen id acts y)
     ∙ sym (shares-append (turnOf id a x) (history id acts y))
+
+-- ---- a run, then another
+pub log-append : (acts more : List Act) (x : Desk) → log (acts ++ more) x ≡ log acts x ++ log more (run acts x)
+unfolding events answers run
+log-append [] more x = refl
+log-append (a ∷ acts) more x = ap (λ (l : List Event). eventOf a x ∷ l) (log-append acts more (after a x))
+
+pub run-append : (acts more : List Act) (x : Desk) → run (acts ++ more) x ≡ run more (run acts x)
+unfolding run
+run-append [] more x = refl
+run-append (a ∷ acts) more x = run-append acts more (after a x)
 
 -- ---- refused calls left out: they change nothing
 unfoldable pub taken : List Act → Desk → List Act

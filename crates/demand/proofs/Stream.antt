@@ -1,5 +1,5 @@
 -- The packets of every run from the fresh state in which p stands are a stream as 01 sets out. Assumes nothing.
-use Prim.Native.Nat.{ℕ, zero, suc, _+_, _<_, _≤_}
+use Prim.Native.Nat.{ℕ, _<_, _≤_}
 use mathlib.Core.Path.{_≡_, refl, sym, ap, ap₂, _∙_, subst}
 use mathlib.Core.List.{List, [], _∷_, _++_}
 use mathlib.Core.Bool.{Bool, true, false, _&&_}
@@ -9,24 +9,23 @@ use lib.Dec.{eqb}
 use lib.ListN.{length, replicate}
 use Rattle.laws.specs.Pick.{pick}
 use Rattle.laws.specs.Refuse.{refusedWith}
-use Rattle.hand.specs.declared.Settings.{Settings}
 use Rattle.hand.proofs.Allowed.{allowed}
 use Rattle.packet.specs.Packet.{nothing}
 use Rattle.queue.specs.Send.{got}
-use Rattle.row.specs.Content.{begunIn, chunks}
-use Rattle.sender.specs.State.{fresh, queueOf, indexOf}
+use Rattle.row.specs.Content.{chunks}
+use Rattle.sender.specs.State.{fresh, indexOf}
 use Rattle.sender.specs.Load.{loadTests, loadNumber}
 use Rattle.sender.proofs.Loading.{passed}
 use Rattle.demand.specs.Bytes.{ofId, numbered}
 use Rattle.demand.specs.Run.{Act, load, frame, Desk, freshDesk, settingsOf, after, Steady}
-use Rattle.demand.specs.Log.{log, Stands, gather, packetsOf, unitFor, acceptedOf, sentOf}
-use Rattle.demand.specs.Within.{history, acceptedBy, acceptedIn, sentIn, contentIn}
+use Rattle.demand.specs.Log.{log, Stands, packetsOf, unitFor, acceptedOf, sentOf}
+use Rattle.demand.specs.Within.{history, acceptedBy, acceptedIn, sentIn}
 use Rattle.demand.specs.Stream.{Fair, Stream}
 use Rattle.demand.proofs.Good.{fresh-good}
 use Rattle.demand.proofs.Demand.{pieces}
 use Rattle.demand.proofs.Filler.{filler-null}
 use Rattle.demand.proofs.Seen.{accepted-seen, sent-seen, taken, taken-gather, taken-steady}
-use Rattle.demand.proofs.Mirror.{Fresh, fresh-is, sent-count}
+use Rattle.demand.proofs.Mirror.{fresh-is, sent-count}
 
 -- ---- what is accepted has 1 to 4,096 bytes
 fair-append : (us vs : List (List ℕ)) → Fair us → Fair vs → Fair (us ++ vs)

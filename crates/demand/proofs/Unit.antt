@@ -1,9 +1,9 @@
 -- A unit that was accepted: the packets of its queue that are written next end with all of its own once the shares add up to what waited.
 -- Assumes nothing.
-use Prim.Native.Nat.{ℕ, zero, suc, _+_, _-_, _<_, _≤_}
+use Prim.Native.Nat.{ℕ, _+_, _-_, _≤_}
 use mathlib.Core.Path.{_≡_, refl, sym, ap, ap₂, _∙_, subst}
 use mathlib.Core.List.{List, [], _∷_, _++_, append-assoc, map}
-use mathlib.Core.Bool.{Bool, true, false, not, _&&_}
+use mathlib.Core.Bool.{Bool, false, not, _&&_}
 use native.Mathlib.Omega.{arith}
 use borrow.Author.Tests.{eq-eqb}
 use lib.Dec.{eqb}
@@ -12,16 +12,15 @@ use lib.Seq.{length-take-le}
 use Rattle.laws.specs.Pick.{pick}
 use Rattle.hand.specs.declared.Settings.{Settings}
 use Rattle.hand.proofs.Allowed.{allowed}
-use Rattle.packet.specs.Packet.{Chunk}
-use Rattle.queue.specs.Queue.{addUp, packets, units}
+use Rattle.queue.specs.Queue.{addUp, packets}
 use Rattle.queue.specs.Send.{waits, AllPos, got, shares}
 use Rattle.row.specs.Content.{begunIn, rests, begunAfter, chunks}
 use Rattle.sender.specs.State.{queueOf, indexOf}
 use Rattle.sender.specs.Load.{loadNumber, Accepted}
 use Rattle.sender.proofs.Loading.{passed}
 use Rattle.demand.specs.Bytes.{ofId, saying}
-use Rattle.demand.specs.Run.{Act, load, Desk, settingsOf, numberOf, after, Steady}
-use Rattle.demand.specs.Condition.{piecesOf, Ends}
+use Rattle.demand.specs.Run.{Act, load, Desk, numberOf, after, Steady}
+use Rattle.demand.specs.Condition.{Ends}
 use Rattle.demand.specs.Within.{history, acceptedBy, acceptedIn, sentIn, contentIn, waitingIn}
 use Rattle.demand.proofs.Good.{Good, after-good}
 use Rattle.demand.proofs.Packets.{numbered-saying}
