@@ -112,9 +112,6 @@ item-size = settled (λ i. tags.sizeAt (i .0) (i .1))
 pub item-walk : Settles (λ (s : List ℕ) (r : Walked). r ≡ tags.walkedOf (tags.cutOf s))
 item-walk = settled (λ s. tags.walkedOf (tags.cutOf s))
 
-pub item-find : Settles (λ (i : List ℕ × List ℕ) (r : Spot). r ≡ tags.spotOf (tags.find (i .1) (tags.cutOf (i .0) .items)))
-item-find = settled (λ i. tags.spotOf (tags.find (i .1) (tags.cutOf (i .0) .items)))
-
 pub item-value : Settles (λ (i : List ℕ × Spot) (r : List ℕ). r ≡ tags.shownAt (i .0) (i .1))
 item-value = settled (λ i. tags.shownAt (i .0) (i .1))
 

@@ -1,22 +1,18 @@
 -- What the passes over a packet do at an offset, in the code's words. Assumes nothing.
 use mathlib.Core.Path.{_≡_, refl, sym, ap, ap₂, _∙_}
-use mathlib.Core.Bool.{Bool, true, false}
 use mathlib.Core.List.{List, [], _∷_}
 use Prim.Native.Nat.{ℕ, suc, _+_, _*_, _-_, _≤_, _<_}
 use native.Mathlib.Omega.{arith}
-use borrow.Author.Tests.{le-leb, lt-leb, eq-eqb, ne-eqb}
-use lib.Dec.{eqb, leb}
+use borrow.Author.Tests.{le-leb, lt-leb}
+use lib.Dec.{leb}
 use lib.ListN.{length, take, drop, length-drop}
-use lib.Seq.{drop-drop, length-take-le, take-all}
+use lib.Seq.{drop-drop, take-all}
 use Rattle.laws.specs.Pick.{pick}
-use Rattle.laws.specs.Big.{bigOf, numberAt, Bytes}
-use Rattle.laws.proofs.Big.{bytes-take, bytes-drop}
-use Rattle.items.specs.Items.{Item, Cut, bytesFor, bitsAt, sizeOf, itemAt, noItem, itemThen, cutFrom, cutOf, sizeAt, sameName}
-use Rattle.items.specs.Items.{Found, none, some, find, spotOf, shownAt, walkedOf}
+use Rattle.laws.specs.Big.{bigOf, numberAt}
+use Rattle.items.specs.Items.{Item, Cut, bytesFor, bitsAt, sizeOf, itemAt, noItem, itemThen, cutFrom, cutOf, sizeAt, shownAt, walkedOf}
 use Rattle.items.specs.declared.Spot.{Spot}
 use Rattle.items.specs.declared.Walked.{Walked}
 use Rattle.items.proofs.Rule.{at-none, at-item, at-fits, whole, size-pos}
-use Rattle.items.proofs.Names.{same-number}
 
 -- ---- `size_at`
 
@@ -119,15 +115,7 @@ bits-later S at n size some′ =
     let b = f .1 in
     number-later S at (omega arith)
 
--- ---- `find`
-
-pub record Finding (S N : List ℕ) (at : ℕ) : Type 0 where
-  pub inside : at ≤ length S
-  pub rest : find N (cutFrom (drop at S) at .items) ≡ find N (cutOf S .items)
-
-pub finding-first : (S N : List ℕ) → Finding S N 0
-unfolding cutOf
-finding-first S N = record { inside = omega arith; rest = refl }
+-- ---- names as numbers
 
 -- the number at an item is its name's
 pub name-number : (S : List ℕ) (at n key : ℕ) → n ≡ sizeAt S at → (n ≡ 0 → ⊥) → key ≡ numberAt 4 S at → key ≡ bigOf (take 4 (drop at S))
@@ -144,40 +132,6 @@ unfolding numberAt
 whole-number N want l e =
     let k : 0 + 4 ≤ length N = omega arith in
     e ∙ rw (le-leb (0 + 4) (length N) k) (ap bigOf (take-all 4 N (omega arith)))
-
-module _ (S N : List ℕ) (at n : ℕ) (w : Finding S N at) (size : n ≡ sizeAt S at) where
-  pub find-none : n ≡ 0 → _≡_ {A = Spot} (record { start = 0; bits = 0 }) (spotOf (find N (cutOf S .items)))
-  unfolding spotOf find noItem
-  find-none z = ap spotOf (sym (ap (λ (c : Cut). find N (c .items)) (at-none S at n size z)) ∙ w .rest)
-
-  module _ (some′ : n ≡ 0 → ⊥) (key want : ℕ) (ke : key ≡ numberAt 4 S at) (we : want ≡ numberAt 4 N 0) (four : length N ≡ 4) (sb : Bytes S) (nb : Bytes N) where
-    named-is : eqb key want ≡ sameName N (take 4 (drop at S))
-    named-is =
-        let f = at-fits S at n size some′ in
-        let a = f .0 in
-        let b = f .1 in
-        let l : length (take 4 (drop at S)) ≡ 4 = length-take-le 4 (drop at S) (omega (arith, length-drop at S)) in
-        rw (name-number S at n key size some′ ke, whole-number N want four we)
-        (same-number N (take 4 (drop at S)) nb (bytes-take 4 (drop at S) (bytes-drop at S sb)) (four ∙ sym l))
-
-    pub find-hit : (v : ℕ) → v ≡ numberAt 4 S (at + 4) → key ≡ want → _≡_ {A = Spot} (record { start = at + 8; bits = v }) (spotOf (find N (cutOf S .items)))
-    unfolding spotOf find itemThen itemAt bitsAt
-    find-hit v f h =
-        let g = at-fits S at n size some′ in
-        let a = g .0 in
-        let b = g .1 in
-        let m : at + 8 ≤ length S = omega arith in
-        let q : v ≡ numberAt 4 (drop at S) 4 = f ∙ sym (number-later S at m) in
-        let t : sameName N (take 4 (drop at S)) ≡ true = sym named-is ∙ eq-eqb key want h in
-        let r : find N (cutFrom (drop at S) at .items) ≡ some (itemAt (drop at S) at) = ap (λ (c : Cut). find N (c .items)) (at-item S at n size some′) ∙ rw t refl in
-        ap (λ (k : ℕ). record { start = at + 8; bits = k }) q ∙ ap spotOf (sym r ∙ w .rest)
-
-    pub find-miss : (key ≡ want → ⊥) → Finding S N (at + n)
-    unfolding find itemThen itemAt
-    find-miss h =
-        let t : sameName N (take 4 (drop at S)) ≡ false = sym named-is ∙ ne-eqb key want h in
-        let r : find N (cutFrom (drop at S) at .items) ≡ find N (cutFrom (drop (at + n) S) (at + n) .items) = ap (λ (c : Cut). find N (c .items)) (at-item S at n size some′) ∙ rw t refl in
-        record { inside = at-fits S at n size some′ .1; rest = sym r ∙ w .rest }
 
 -- ---- `value`
 

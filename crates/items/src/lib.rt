@@ -1,11 +1,9 @@
 // TAG items of a lent packet (01, "MDI packet"; 002, clause 5): a name of 4 bytes, a length in bits of 4 bytes, and a value of that length
 // rounded up to whole bytes. Items follow each other; fewer than 8 bytes behind the last are padding.
 ghost use mathlib.Core.Path.{_≡_};
-ghost use mathlib.Core.Bool.{Bool};
 ghost use Prim.Native.Nat.{_+_, _*_, _^_, _≤_};
 ghost use lib.ListN.{length};
-ghost use Rattle.laws.specs.Big.{numberAt, Bytes};
-ghost use Rattle.items.specs.Items.{bytesFor, sizeAt, cutOf, walkedOf, find, spotOf, shownAt};
+ghost use Rattle.items.specs.Items.{bytesFor, sizeAt, cutOf, walkedOf, shownAt};
 
 // Where a value starts in the packet and how many bits it has; 0 and 0: there is no such item.
 pub struct Spot {
@@ -58,35 +56,6 @@ pub fn walk(s: &[u8]) -> Walked
         }
         at += n;
         count += 1;
-    }
-}
-
-// The number of a name's four bytes.
-fn number_of(name: &[u8]) -> u32
-    ensures { λ r. ⌜ (r ≡ numberAt 4 (now (name .entry)) 0) × Bytes (now (name .entry)) ⌝ }
-{
-    fields::read32(name, 0)
-}
-
-// The first item of a name. Names are compared as numbers of 32 bits.
-pub fn find(s: &[u8], name: &[u8; 4]) -> Spot
-    ensures { λ r. ⌜ r ≡ spotOf (find (now (name .entry)) (cutOf (now (s .entry)) .items)) ⌝ }
-{
-    let want = number_of(name);
-    let mut at: usize = 0;
-    loop {
-        let n = size_at(s, at);
-        if n == 0 {
-            return Spot { start: 0, bits: 0 };
-        }
-        if fields::read32(s, at) == want {
-            let bits = fields::read32(s, at + 4);
-            return Spot {
-                start: at + 8,
-                bits,
-            };
-        }
-        at += n;
     }
 }
 

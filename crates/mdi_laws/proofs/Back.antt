@@ -24,8 +24,8 @@ use Rattle.sdc.specs.Block as block
 use Rattle.sdc.proofs.Back as blocks
 use Rattle.record.specs.declared.Record.{Record}
 use Rattle.items.specs.Items.{Item, Found, some, Cut, cutOf, find, sameName, valueOf, All}
-use Rattle.joins.specs.Joined.{placed, kept, Sound, Distinct, bare, keep}
-use Rattle.joins.proofs.Joins.{cut-packet, kept-all, kept-distinct, once-placed, find-written}
+use Rattle.items.specs.Joined.{placed, kept, Sound, Distinct, bare, keep}
+use Rattle.items.proofs.Joins.{cut-packet, kept-all, kept-distinct, once-placed, find-written}
 use Rattle.mdi_spots.specs.Names as name
 use Rattle.mdi_spots.specs.Table.{exactly, wholeBytes, sdcBits, sdciBits, missing, badLength}
 use Rattle.mdi_check.specs.Conditions.{protocol, knownMode, onTime, served, mscMode, agrees, badValue, badFac, badSdc, unserved, badDescription, badStreams}

@@ -9,7 +9,7 @@ use lib.Dec.{eqb}
 use lib.ListN.{length}
 use Rattle.laws.specs.Pick.{pick}
 use Rattle.items.specs.Items.{Item, Found, none, some, valueOf}
-use Rattle.joins.specs.Joined.{putAt, bare, keep}
+use Rattle.items.specs.Joined.{putAt, bare, keep}
 use Rattle.mdi_spots.specs.Table.{absent, wrong, ill}
 use Rattle.mdi_write.specs.Packet.{entry}
 

@@ -26,7 +26,7 @@ use Rattle.record.specs.declared.Record.{Record}
 use Rattle.record.specs.declared.Time.{Time}
 use Rattle.record.specs.declared.Time.the-variants.{Absent, Given}
 use Rattle.items.specs.Items.{Found, valueOf}
-use Rattle.joins.specs.Joined.{Sound, chunkSize}
+use Rattle.items.specs.Joined.{Sound, chunkSize}
 use Rattle.mdi_spots.specs.Table.{exactly, wholeBytes, sdcBits, sdciBits}
 use Rattle.mdi_check.specs.Conditions.{onTime}
 use Rattle.mdi.specs.Reading.{timeOf}

@@ -14,8 +14,8 @@ use Rattle.laws.proofs.Big.{bytes-length}
 use Rattle.laws.proofs.Flags.{or-false}
 use Rattle.laws.proofs.Written.{written-none, write-next, written-length}
 use Rattle.items.specs.Items.{Item}
-use Rattle.joins.specs.Joined.{joined, kept, chunk, chunkSize}
-use Rattle.joins.proofs.Joins.{joined-kept}
+use Rattle.items.specs.Joined.{joined, kept, chunk, chunkSize}
+use Rattle.items.proofs.Joins.{joined-kept}
 use Rattle.description.specs.Bytes as described
 use Rattle.fac.specs.Channel.{facBytes}
 use Rattle.fac.proofs.Back as channel

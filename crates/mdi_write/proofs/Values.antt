@@ -36,8 +36,8 @@ use Rattle.fac.proofs.Back as channel
 use Rattle.fac.proofs.Fits as fits
 use Rattle.sdc.specs.declared.Sdc.{Sdc}
 use Rattle.sdc.specs.Block.{sdcBytes}
-use Rattle.joins.specs.Joined.{itemBytes, chunk, chunkSize}
-use Rattle.joins.proofs.Joins.{item-length}
+use Rattle.items.specs.Joined.{itemBytes, chunk, chunkSize}
+use Rattle.items.proofs.Joins.{item-length}
 use Rattle.record.specs.declared.Record.{Record}
 use Rattle.record.specs.declared.Time.{Time}
 use Rattle.record.specs.declared.Time.the-variants.{Absent, Given}

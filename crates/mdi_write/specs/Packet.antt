@@ -4,7 +4,7 @@ use mathlib.Core.List.{List, [], _∷_, _++_}
 use lib.ListN.{length}
 use Rattle.laws.specs.Big.{bytesOf}
 use Rattle.items.specs.Items.{Item}
-use Rattle.joins.specs.Joined.{joined, kept}
+use Rattle.items.specs.Joined.{joined, kept}
 use Rattle.mdi_spots.specs.Names as name
 use Rattle.clock.specs.Stamps.{stampBytes}
 use Rattle.description.specs.Bytes as described

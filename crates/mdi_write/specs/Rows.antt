@@ -4,7 +4,7 @@ use mathlib.Core.Bool.{Bool, false}
 use mathlib.Core.Path.{_≡_}
 use mathlib.Core.List.{List}
 use lib.ListN.{length}
-use Rattle.joins.specs.Joined.{chunk, chunkSize}
+use Rattle.items.specs.Joined.{chunk, chunkSize}
 use Rattle.description.specs.WellFormed as described
 use Rattle.fac.specs.Channel as fast
 use Rattle.sdc.specs.Block.{sdcBytes}

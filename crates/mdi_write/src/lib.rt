@@ -16,7 +16,7 @@ ghost use Rattle.description.specs.Answers.{unserved};
 ghost use Rattle.fac.specs.Channel as fast;
 ghost use Rattle.fac.specs.Channel.{facBytes};
 ghost use Rattle.sdc.specs.Block.{sdcBytes};
-ghost use Rattle.joins.specs.Joined.{joined, kept};
+ghost use Rattle.items.specs.Joined.{joined, kept};
 ghost use Rattle.mdi_spots.specs.Names as name;
 ghost use Rattle.mdi_write.specs.Packet.{four, timeBytes, headRows, streamRows, packetOf};
 ghost use Rattle.mdi_write.specs.Rows.{wire, wireSize, sizeFor, Ready};

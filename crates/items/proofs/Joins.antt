@@ -6,16 +6,17 @@ use mathlib.Core.List.{List, [], _∷_, _++_, append-assoc, append-nil}
 use native.Mathlib.Nat.{add-zero, zero-add}
 use native.Mathlib.Omega.{arith}
 use borrow.Author.Tests.{le-leb}
-use lib.Dec.{leb, eqb, lit<}
+use lib.Dec.{leb, eqb}
 use lib.ListN.{length, getD, take, drop, length-append}
 use lib.Seq.{take-at, drop-at, drop-drop}
 use Rattle.laws.specs.Pick.{pick}
 use Rattle.laws.specs.Big.{bytesOf, bigOf, numberAt}
 use Rattle.laws.proofs.Big.{big-back, bytes-length}
 use Rattle.items.specs.Items.{Item, Cut, bitsAt, bytesFor, sizeOf, itemAt, noItem, itemThen, cutFrom, cutOf, sameName, Found, none, some, find, All, Once}
 use Rattle.items.proofs.Rule.{cut-item, cut-none, size-pos}
 use Rattle.items.proofs.Names.{same-list, list-same}
-use Rattle.joins.specs.Joined.{itemBytes, wireOf, joined, putAt, placed, kept, Sound, Distinct, chunk, total, bare, keep}
+use Rattle.items.specs.Joined.{itemBytes, wireOf, joined, putAt, placed, kept, Sound, Distinct, chunk, total, bare, keep}
+use Rattle.items.specs.Exact.{NoItem}
 
 pub item-length : (n : List ℕ) (b : ℕ) (v : List ℕ) → length n ≡ 4 → length (itemBytes n b v) ≡ 8 + length v
 unfolding itemBytes
@@ -80,31 +81,30 @@ module _ (i : Item) (s : Sound i) (r : List ℕ) where
       cut-item all at fits
       ∙ ap₂ itemThen (the-item at) (ap (λ (k : ℕ). cutFrom (drop k all) (at + k)) the-size ∙ ap (λ (l : List ℕ). cutFrom l (at + (8 + length v))) the-rest)
 
--- ---- THE THEOREM: joined items, with less than 8 bytes behind them, are cut into those items
-
-short : (r : List ℕ) (at : ℕ) → length r < 8 → cutFrom r at ≡ noItem at
-short r at h = cut-none r at (omega (arith, size-pos r))
+-- ---- THE THEOREM: joined items, with a rest behind them that begins no whole item, are cut into those items
 
 ends : (i : Item) → Sound i → (l : List ℕ) (at : ℕ) → at + (8 + length (i .value)) + length l ≡ at + length (wireOf i ++ l)
 ends i s l at = omega (arith, length-append (wireOf i) l, wire-length i s)
 
-pub cut-joined : (is : List Item) (r : List ℕ) (at : ℕ) → All Sound is → length r < 8
+pub cut-joined : (is : List Item) (r : List ℕ) (at : ℕ) → All Sound is → NoItem r
     → cutFrom (joined is ++ r) at ≡ record { items = placed at is; stop = at + length (joined is) }
 unfolding joined placed noItem itemThen
-cut-joined [] r at s h = short r at h ∙ rw add-zero refl
+cut-joined [] r at s h = cut-none r at h ∙ rw add-zero refl
 cut-joined (i ∷ is) r at s h =
     ap (λ (l : List ℕ). cutFrom l at) (append-assoc (wireOf i) (joined is) r)
     ∙ cut-one i (s .0) (joined is ++ r) at
     ∙ ap (itemThen (putAt at i)) (cut-joined is r (at + (8 + length (i .value))) (s .1) h)
     ∙ ap (λ (k : ℕ). record { items = putAt at i ∷ placed (at + (8 + length (i .value))) is; stop = k }) (ends i (s .0) (joined is) at)
 
+pub cut-whole : (is : List Item) (r : List ℕ) → All Sound is → NoItem r → cutOf (joined is ++ r) ≡ record { items = placed 0 is; stop = length (joined is) }
+unfolding cutOf
+cut-whole is r s h =
+    cut-joined is r 0 s h ∙ ap (λ (k : ℕ). record { items = placed 0 is; stop = k }) (zero-add (length (joined is)))
+
 -- joined items are a whole packet
 pub cut-packet : (is : List Item) → All Sound is → cutOf (joined is) ≡ record { items = placed 0 is; stop = length (joined is) }
-unfolding cutOf
 cut-packet is s =
-    ap (λ (l : List ℕ). cutFrom l 0) (sym (append-nil (joined is)))
-    ∙ cut-joined is [] 0 s (lit< tt)
-    ∙ ap (λ (k : ℕ). record { items = placed 0 is; stop = k }) (zero-add (length (joined is)))
+    ap cutOf (sym (append-nil (joined is))) ∙ cut-whole is [] s (omega (arith, size-pos []))
 
 -- ---- what is found in placed items does not depend on the places
 
