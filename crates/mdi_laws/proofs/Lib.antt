@@ -6,3 +6,6 @@ pub mod Stood
 pub mod Values
 pub mod Back
 pub mod Again
+pub mod NoMatter
+pub mod Accepted
+pub mod RoundTrips
