@@ -35,7 +35,7 @@ use Rattle.mdi.specs.Reading.{readFor, streamFor}
 use Rattle.mdi_write.specs.declared.Wrote.{Wrote}
 use Rattle.mdi_write.specs.Packet.{Streams}
 use Rattle.mdi_write.specs.Answers as written
-use Rattle.succession.specs.Succession.{followsFor}
+use Rattle.record.specs.Succession.{followsFor}
 
 -- `mdi::read` and `stream`; an input is the packet, and for the latter the stream's number
 pub read : Settles (λ (p : List ℕ) (r : Answer). r ≡ readFor p)
@@ -49,7 +49,7 @@ pub write : Settles (λ (i : Record × Streams × List ℕ) (o : Wrote × List �
     (o .0 ≡ written.writeFor (i .0) (i .1) (length (i .2))) × (o .1 ≡ written.outFor (i .0) (i .1) (i .2)))
 write = settled-both (λ i. written.writeFor (i .0) (i .1) (length (i .2))) (λ i. written.outFor (i .0) (i .1) (i .2))
 
--- `succession::follows`, and `clock::check`
+-- `record::follows`, and `clock::check`
 pub packet-follows : Settles (λ (i : Record × Record) (r : succeeds.Verdict). r ≡ followsFor (i .0) (i .1))
 packet-follows = settled (λ i. followsFor (i .0) (i .1))
 

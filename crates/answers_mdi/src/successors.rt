@@ -39,6 +39,6 @@ pub(crate) fn follows(body: &[u8], out: &mut [u8]) -> usize {
     }
     let a = record_at(body, 0);
     let b = record_at(body, SIZE);
-    let verdict = succession::follows(a, b);
+    let verdict = record::follows(a, b);
     answer::number_and_value(out, verdict.number, 0, verdict.yes as u64)
 }

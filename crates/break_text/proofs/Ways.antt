@@ -11,7 +11,7 @@ use Rattle.clock.specs.declared.Verdict.{Verdict}
 use Rattle.record.specs.declared.Record.{Record}
 use Rattle.record.specs.declared.Time.{Time}
 use Rattle.record.specs.declared.Time.the-variants.{Absent, Given}
-use Rattle.succession.specs.Succession.{followsFor}
+use Rattle.record.specs.Succession.{followsFor}
 use Rattle.break_text.specs.Break.{rawStampText, rawText, countText, breakText}
 
 module _ {d e : List ℕ} {at n : ℕ} where

@@ -8,7 +8,7 @@ use Rattle.clock.specs.declared.Stamp.{Stamp}
 use Rattle.record.specs.declared.Record.{Record}
 use Rattle.record.specs.declared.Time.{Time}
 use Rattle.record.specs.declared.Time.the-variants.{Absent, Given}
-use Rattle.succession.specs.Succession.{followsFor}
+use Rattle.record.specs.Succession.{followsFor}
 
 -- a timestamp as it stands in the packet
 unfoldable pub rawStampText : Stamp → List ℕ

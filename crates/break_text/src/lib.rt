@@ -40,7 +40,7 @@ fn put_count(word: &[u8], n: u64, t: Time, out: &mut [u8], at: usize) -> usize
 pub fn broken(x: Record, y: Record, out: &mut [u8; 1024]) -> usize
     ensures { λ r. ⌜ Puts (now (out .entry)) 0 (breakText x y) (now (out .exit)) r ⌝ }
 {
-    let v = succession::follows(x, y);
+    let v = record::follows(x, y);
     if v.yes {
         return 0;
     }

@@ -1,1 +1,3 @@
 pub mod Empty
+pub mod Ways
+pub mod Wraps

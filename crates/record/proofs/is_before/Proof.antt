@@ -1,9 +1,9 @@
--- `succession::is_before` meets its contract. Assumes nothing.
+-- `record::is_before` meets its contract. Assumes nothing.
 use Prim.Native.Nat.{_-_}
-use Rattle.succession.proofs.Ways.{before-none, before-given}
+use Rattle.record.proofs.Ways.{before-none, before-given}
 use borrow.Author.Needs.{needs}
-use Rattle.succession.proofs.is_before.Statement.{statement}
-use Rattle.succession.proofs.is_before.Tie as tie
+use Rattle.record.proofs.is_before.Statement.{statement}
+use Rattle.record.proofs.is_before.Tie as tie
 
 enum-told : tie.Need-enum-told
 enum-told c = search needs

@@ -1,9 +1,9 @@
--- `succession::number_of` meets its contract. Assumes nothing.
+-- `record::number_of` meets its contract. Assumes nothing.
 use Prim.Native.Nat.{_-_}
-use Rattle.succession.proofs.Ways.{tests-none, tests-given}
+use Rattle.record.proofs.Ways.{tests-none, tests-given}
 use borrow.Author.Needs.{needs}
-use Rattle.succession.proofs.number_of.Statement.{statement}
-use Rattle.succession.proofs.number_of.Tie as tie
+use Rattle.record.proofs.number_of.Statement.{statement}
+use Rattle.record.proofs.number_of.Tie as tie
 
 enum-told : tie.Need-enum-told
 enum-told c = search needs

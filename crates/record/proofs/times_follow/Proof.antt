@@ -1,9 +1,9 @@
--- `succession::times_follow` meets its contract. Assumes nothing.
+-- `record::times_follow` meets its contract. Assumes nothing.
 use Prim.Native.Nat.{_-_}
-use Rattle.succession.proofs.Ways.{follow-none, follow-given}
+use Rattle.record.proofs.Ways.{follow-none, follow-given}
 use borrow.Author.Needs.{needs}
-use Rattle.succession.proofs.times_follow.Statement.{statement}
-use Rattle.succession.proofs.times_follow.Tie as tie
+use Rattle.record.proofs.times_follow.Statement.{statement}
+use Rattle.record.proofs.times_follow.Tie as tie
 
 enum-told : tie.Need-enum-told
 enum-told c = search needs

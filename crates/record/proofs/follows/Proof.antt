@@ -1,9 +1,9 @@
--- `succession::follows` meets its contract. Assumes nothing.
+-- `record::follows` meets its contract. Assumes nothing.
 use mathlib.Core.Path.{sym, _∙_}
-use Rattle.succession.proofs.Ways.{follows-first, follows-second, follows-both}
+use Rattle.record.proofs.Ways.{follows-first, follows-second, follows-both}
 use borrow.Author.Needs.{needs}
-use Rattle.succession.proofs.follows.Statement.{statement}
-use Rattle.succession.proofs.follows.Tie as tie
+use Rattle.record.proofs.follows.Statement.{statement}
+use Rattle.record.proofs.follows.Tie as tie
 
 number-of-requires : tie.Need-number-of-requires
 number-of-requires c κs = search needs

@@ -3,6 +3,7 @@
 use Prim.Native.Nat.{ℕ, _+_, _%_, _^_}
 use mathlib.Core.Bool.{Bool, true, false, _&&_}
 use mathlib.Core.List.{List, [], _++_}
+use mathlib.Core.Path.{_≡_}
 use lib.Dec.{eqb}
 use Rattle.laws.specs.Pick.{pick}
 use Rattle.laws.specs.Refuse.{Test, refusedWith}
@@ -10,9 +11,10 @@ use Rattle.clock.specs.declared.Stamp.{Stamp}
 use Rattle.clock.specs.declared.Verdict.{Verdict}
 use Rattle.clock.specs.Follows as stamps
 use Rattle.clock.specs.Stamps.{fieldTests}
+use Rattle.clock.specs.Next.{nextFor}
 use Rattle.record.specs.declared.Record.{Record}
 use Rattle.record.specs.declared.Time.{Time}
 use Rattle.record.specs.declared.Time.the-variants.{Absent, Given}
 
 -- the frame after FFFFFFFF is 0
 unfoldable pub countFollows : ℕ → ℕ → Bool
@@ -39,3 +41,12 @@ unfoldable pub followsFor : Record → Record → Verdict
 followsFor a b =
     let number = refusedWith (testsFor a b) in
     record { number = number; yes = pick (eqb number 0) (countFollows (a .count) (b .count) && timesFollow (a .time) (b .time)) false }
+
+-- where counts and timestamps end (01, "MDI packet": the frame after FFFFFFFF is 0; "Clock and recordings")
+pub record Ends : Type 0 where
+  -- after FFFFFFFF comes 0, where the timestamps are in order too
+  pub zero-after-last : (a b : Record) → a .count ≡ 0xffffffff → b .count ≡ 0 → followsFor a b .number ≡ 0 → timesFollow (a .time) (b .time) ≡ true → followsFor a b .yes ≡ true
+  -- and no other count
+  pub no-other : (a b : Record) → a .count ≡ 0xffffffff → followsFor a b .yes ≡ true → b .count ≡ 0
+  -- nothing with a timestamp follows a timestamp without a successor
+  pub no-successor : (a b : Record) (s t : Stamp) → a .time ≡ Given s → b .time ≡ Given t → nextFor s .number ≡ 18 → followsFor a b .yes ≡ false

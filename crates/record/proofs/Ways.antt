@@ -12,10 +12,10 @@ use Rattle.clock.specs.declared.Stamp.{Stamp}
 use Rattle.clock.specs.declared.Verdict.{Verdict}
 use Rattle.clock.specs.Follows as stamps
 use Rattle.clock.specs.Stamps.{fieldTests}
 use Rattle.record.specs.declared.Record.{Record}
 use Rattle.record.specs.declared.Time.{Time}
 use Rattle.record.specs.declared.Time.the-variants.{Absent, Given}
-use Rattle.succession.specs.Succession.{countFollows, stampBefore, timesFollow, timeTests, testsFor, followsFor}
+use Rattle.record.specs.Succession.{countFollows, stampBefore, timesFollow, timeTests, testsFor, followsFor}
 
 pub tests-none : (t : Time) → t ≡ Absent → 0 ≡ refusedWith (timeTests t)
 unfolding timeTests
