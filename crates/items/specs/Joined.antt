@@ -41,6 +41,8 @@ pub record Sound (i : Item) : Type 0 where
   pub small : i .bits < 2 ^ 32
   pub whole : length (i .value) ≡ bytesFor (i .bits)
 
+-- ---- what proofs and the writer's steps speak of: no statement for a reader names it
+
 -- behind no item stands one of its name
 abbrev pub Distinct : List Item → Type 0
 Distinct [] = Unit {0}
@@ -59,7 +61,7 @@ abbrev pub total : List Item → ℕ
 total [] = 0
 total (i ∷ is) = 8 + length (i .value) + total is
 
--- ---- what is found, whatever its place
+-- what is found, whatever its place
 unfoldable pub bare : Found → Found
 bare none = none
 bare (some i) = some (putAt 0 i)
