@@ -1,9 +1,5 @@
 pub mod Examples
 pub mod Rejected
-pub mod Unique
-pub mod UniqueFrame
-pub mod UniqueSteps
-pub mod UniqueStream
 pub mod RejectedReader
-pub mod UniqueMdi
+pub mod UniqueSteps
 pub mod UniqueText

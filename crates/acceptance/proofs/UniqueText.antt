@@ -1,10 +1,8 @@
--- As Unique, for what the program `inspect` counts and prints. The promise of a line names a date by the seconds before it, and only one date
+-- Each promise settles its call, of what the program `inspect` prints. The promise of a line names a date by the seconds before it, and only one date
 -- has so many. Assumes nothing.
 use Prim.Native.Nat.{ℕ, _+_, _≤_}
-use mathlib.Core.Bool.{Bool}
-use mathlib.Core.List.{List, _++_}
+use mathlib.Core.List.{List}
 use mathlib.Core.Path.{_≡_, sym, ap₂, _∙_, subst}
-use lib.ListN.{length}
 use Rattle.laws.specs.Settle.{Settles}
 use Rattle.laws.proofs.Settle.{settled}
 use Rattle.calendar.specs.declared.Date.{Date}
@@ -13,47 +11,14 @@ use Rattle.copy.specs.Copy.{Puts}
 use Rattle.mdi.specs.declared.Answer.{Answer}
 use Rattle.record.specs.declared.Record.{Record}
 use Rattle.tally.specs.declared.Tally.{Tally}
-use Rattle.tally.specs.Tally.{noTally, countedFor, placeFor}
 use Rattle.record.specs.declared.Time.{Time}
-use Rattle.line_text.specs.Decimal.{decimal, numberLine, pairLine}
 use Rattle.line_text.specs.Line.{Placed}
+use Rattle.line_text.proofs.Settled.{placed-once}
 use Rattle.date_text.specs.Date.{millisText, dateText}
 use Rattle.stamp_text.specs.Stamp.{since, timeText}
 use Rattle.break_text.specs.Break.{breakText}
 use Rattle.inspect_text.specs.Inspect.{packetText, Line, refusedText}
 use Rattle.summary_text.specs.Summary.{summaryText, Summary}
-
--- `tally::none`, `count` and `place`
-pub no-tally : Settles (λ (i : Unit {0}) (r : Tally). r ≡ noTally)
-no-tally = settled (λ i. noTally)
-
-pub counted : Settles (λ (i : Tally × Answer × Bool) (r : Tally). r ≡ countedFor (i .0) (i .1) (i .2))
-counted = settled (λ i. countedFor (i .0) (i .1) (i .2))
-
-pub place-in-file : Settles (λ (i : ℕ × ℕ × ℕ) (r : ℕ). r ≡ placeFor (i .0) (i .1) (i .2))
-place-in-file = settled (λ i. placeFor (i .0) (i .1) (i .2))
-
--- a text at an offset of a buffer, where it has room; an outcome is the offset behind it and the buffer after the call
-placed-once : (room at bound : ℕ) (text before : List ℕ) → (x y : ℕ × List ℕ) → (x .0 ≤ bound) × Placed room before at text (x .1) (x .0)
-    → (y .0 ≤ bound) × Placed room before at text (y .1) (y .0) → x ≡ y
-placed-once room at bound text before x y p q = ap₂ (λ n s. (n, s)) (p .1 .end ∙ sym (q .1 .end)) (p .1 .buffer ∙ sym (q .1 .buffer))
-
--- `line_text::word`, `named`, `line` and `pair`; an input is what they are of, the buffer before the call and the offset
-pub word-put : Settles (λ (i : List ℕ × List ℕ × ℕ) (o : ℕ × List ℕ). (o .0 ≤ i .2 + length (i .0)) × Placed (length (i .0)) (i .1) (i .2) (i .0) (o .1) (o .0))
-word-put i x y p q = placed-once (length (i .0)) (i .2) (i .2 + length (i .0)) (i .0) (i .1) x y p q
-
-pub named-put : Settles (λ (i : List ℕ × ℕ × List ℕ × ℕ) (o : ℕ × List ℕ).
-    (o .0 ≤ i .3 + (length (i .0) + 20)) × Placed (length (i .0) + 20) (i .2) (i .3) (i .0 ++ decimal (i .1)) (o .1) (o .0))
-named-put i x y p q = placed-once (length (i .0) + 20) (i .3) (i .3 + (length (i .0) + 20)) (i .0 ++ decimal (i .1)) (i .2) x y p q
-
-pub number-line : Settles (λ (i : List ℕ × ℕ × List ℕ × ℕ) (o : ℕ × List ℕ).
-    (o .0 ≤ i .3 + (length (i .0) + 21)) × Placed (length (i .0) + 21) (i .2) (i .3) (numberLine (i .0) (i .1)) (o .1) (o .0))
-number-line i x y p q = placed-once (length (i .0) + 21) (i .3) (i .3 + (length (i .0) + 21)) (numberLine (i .0) (i .1)) (i .2) x y p q
-
-pub pair-line : Settles (λ (i : List ℕ × ℕ × List ℕ × ℕ × List ℕ × ℕ) (o : ℕ × List ℕ).
-    (o .0 ≤ i .5 + (length (i .0) + length (i .2) + 41)) × Placed (length (i .0) + length (i .2) + 41) (i .4) (i .5) (pairLine (i .0) (i .1) (i .2) (i .3)) (o .1) (o .0))
-pair-line i x y p q =
-    placed-once (length (i .0) + length (i .2) + 41) (i .5) (i .5 + (length (i .0) + length (i .2) + 41)) (pairLine (i .0) (i .1) (i .2) (i .3)) (i .4) x y p q
 
 -- `date_text::millis` and `date`
 pub millis-put : Settles (λ (i : ℕ × List ℕ × ℕ) (o : ℕ × List ℕ). (o .0 ≤ i .2 + 4) × Placed 4 (i .1) (i .2) (millisText (i .0)) (o .1) (o .0))

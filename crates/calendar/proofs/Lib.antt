@@ -1,3 +1,4 @@
 pub mod Days
 pub mod Examples
 pub mod Parts
+pub mod Settled

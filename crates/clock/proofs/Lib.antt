@@ -4,3 +4,4 @@ pub mod Examples
 pub mod Fit
 pub mod Later
 pub mod Successor
+pub mod Settled

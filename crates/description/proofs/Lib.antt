@@ -6,3 +6,4 @@ pub mod Meaning
 pub mod Back
 pub mod RoundTrips
 pub mod Examples
+pub mod Settled

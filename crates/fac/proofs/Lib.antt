@@ -1,3 +1,4 @@
 pub mod Fits
 pub mod Ways
 pub mod Back
+pub mod Settled

@@ -1,3 +1,4 @@
 pub mod Back
 pub mod Reading
 pub mod Writing
+pub mod Settled

@@ -3,3 +3,4 @@ pub mod Ways
 pub mod Building
 pub mod Cutting
 pub mod RoundTrip
+pub mod Settled

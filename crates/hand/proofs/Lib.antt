@@ -4,3 +4,4 @@ pub mod Served
 pub mod Answer
 pub mod Examples
 pub mod Turn
+pub mod Settled

@@ -6,3 +6,4 @@ pub mod Once
 pub mod Joins
 pub mod Exact
 pub mod Order
+pub mod Settled

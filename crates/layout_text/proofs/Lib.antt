@@ -1,3 +1,4 @@
 pub mod Lines
 pub mod Ways
 pub mod Examples
+pub mod Settled

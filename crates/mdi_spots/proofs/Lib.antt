@@ -1,3 +1,4 @@
 pub mod Items
 pub mod Ways
 pub mod Pass
+pub mod Settled

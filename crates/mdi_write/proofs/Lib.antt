@@ -1,3 +1,4 @@
 pub mod Values
 pub mod Laying
 pub mod Numbers
+pub mod Settled

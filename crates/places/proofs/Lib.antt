@@ -1,3 +1,4 @@
 pub mod Placing
 pub mod Covers
 pub mod Examples
+pub mod Settled

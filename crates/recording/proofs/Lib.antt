@@ -3,3 +3,4 @@ pub mod Filling
 pub mod Walk
 pub mod Whole
 pub mod Window
+pub mod Settled
