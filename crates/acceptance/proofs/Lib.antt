@@ -1,5 +1,7 @@
 pub mod Examples
 pub mod Rejected
+pub mod RejectedCounts
 pub mod RejectedReader
+pub mod RejectedReceiver
 pub mod UniqueSteps
 pub mod UniqueText

@@ -23,7 +23,7 @@ use Rattle.sender.specs.State.{queueOf, brokenState, putQueue, waitingOf}
 use Rattle.sender.specs.Frame as frames
 use Rattle.sender.specs.Load as loads
 use Rattle.sender.specs.Outer.{outer, outerLoaded, outerFramed}
-use Rattle.acceptance.specs.Wrong.{Disperser, Disperses, Copies, Loader, Loads, TakesNone, Framer, Frames, firstId, OnlyFiller, again, ThenFiller, ThenRefuses, Invents}
+use Rattle.acceptance.specs.Wrong.{Disperser, Disperses, Copies, Loader, Loads, TakesNone, Framer, Frames, firstId, OnlyFiller, again, ThenFiller, ThenRefuses}
 
 -- a zero byte becomes 07
 abbrev zero : List ℕ
@@ -67,7 +67,7 @@ busy = outer (record { q = record { left = 2 ∷ replicate 7 0; count = 1; sent 
 abbrev frame : List ℕ
 frame = replicate 4 0
 
--- its first two frames and the first of a fresh sender, by computation
+-- its first two frames, by computation
 abbrev left : Sender
 left = outer (frames.frameFor small (busy .front) store frame .next)
 
@@ -79,14 +79,12 @@ left-frame = frames.outFor small (busy .front) store frame
 
 two-frames : (frames.frameFor small (busy .front) store frame .number ≡ 0) × (firstId 1 left-frame ≡ 0)
     × (frames.frameFor small (left .front) left-store left-frame .number ≡ 0) × (firstId 1 (frames.outFor small (left .front) left-store left-frame) ≡ 0)
-    × (frames.frameFor small (busy .front) store frame .packets .a ≡ 1)
-    × (frames.frameFor small (fresh .front) store frame .number ≡ 0) × (frames.frameFor small (fresh .front) store frame .packets .a ≡ 0)
 unfolding frames.frameFor frames.frameNumber frames.frameTests frames.framed frames.outFor frames.frameBytes frames.framePackets frames.rowAt frames.nulls
     frames.handOf frames.endsOf frames.nextFrom frames.storeAfter frames.closedAll frames.closed pulled states.fresh
     settingsFor settingsTests unfit brokenState broken anyEmpty anyOver lengths unsent addUp waitingOf waiting packets
     give free giveFirst giveOne spread handOut planFor handFor written steps outs stepped packetAt headLen popped dropFirst
     encode plainOf headOf dataOf sealed bytesOf decode
-two-frames = (refl, refl, refl, refl, refl, refl, refl)
+two-frames = (refl, refl, refl, refl)
 
 module _ (f : Framer) (meets : Frames f) where
   answer : (s : Sender) → f small s store frame .0 ≡ outerFramed (frames.frameFor small (s .front) store frame)
@@ -134,14 +132,3 @@ module _ (f : Framer) (meets : Frames f) where
   pub no-refusal-after : ThenRefuses f → ⊥
   unfolding outerFramed
   no-refusal-after then = then small busy store frame served (ap (λ (a : Framed). a .number) next-answer ∙ two-frames .2)
-
-  -- a fresh sender sends none of queue 0, this one sends one
-  pub no-invention : Invents f → ⊥
-  unfolding outerFramed
-  no-invention invents =
-      let none = ap (λ (a : Framed). a .number) (answer fresh) ∙ two-frames .5 in
-      let same : _≡_ {A = ℕ} 0 1
-      = sym (two-frames .6) ∙ ap (λ (a : Framed). a .packets .a) (sym (answer fresh))
-      ∙ ap (λ (t : Three). t .a) (invents small fresh busy store frame none served)
-      ∙ ap (λ (a : Framed). a .packets .a) (answer busy) ∙ two-frames .4 in
-      omega arith

@@ -1,4 +1,4 @@
--- No function that meets the reader's promise refuses everything, and none gives one fixed record for all packets (01, "Acceptance of the
+-- No function that meets the reader's promise refuses everything, and none gives one fixed record for all packets that it takes (01, "Acceptance of the
 -- promises"): two packets that the writer makes, with the counts 0 and 1, refute them. Assumes nothing.
 use Prim.Native.Nat.{ℕ}
 use mathlib.Core.Path.{_≡_, refl, sym, ap, _∙_}
@@ -54,7 +54,9 @@ pub no-fixed-record : (f : Reader) → Reads f → OneRecord f → ⊥
 no-fixed-record f meets same =
     let x = packetOf (plain 0) streams in
     let y = packetOf (plain 1) streams in
+    let a = ap (λ (a : Answer). a .number) (meets x ∙ zero-read) in
+    let b = ap (λ (a : Answer). a .number) (meets y ∙ one-read) in
     let e : _≡_ {A = ℕ} 0 1
-    = ap (λ (a : Answer). a .content .count) (sym (meets x ∙ zero-read)) ∙ ap (λ (r : Record). r .count) (same x y)
+    = ap (λ (a : Answer). a .content .count) (sym (meets x ∙ zero-read)) ∙ ap (λ (r : Record). r .count) (same x y a b)
     ∙ ap (λ (a : Answer). a .content .count) (meets y ∙ one-read) in
     omega arith

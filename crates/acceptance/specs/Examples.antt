@@ -1,5 +1,5 @@
 -- The twelve marked examples of 01, in its order: what a call gives, in numbers, and what 01 says it gives. Assumes nothing.
-use Prim.Native.Nat.{ℕ}
+use Prim.Native.Nat.{ℕ, _-_}
 use mathlib.Core.Path.{_≡_}
 use mathlib.Core.List.{List, [], _∷_}
 use lib.ListN.{replicate}
@@ -52,6 +52,13 @@ ten = record { p = 4; n = 10; share = three 3 3 2; ceiling = three 10 6 10 }
 abbrev handed : Handed → List ℕ
 handed h = h .number ∷ h .packets .a ∷ h .packets .b ∷ h .packets .c ∷ h .filler ∷ h .turn ∷ []
 
+-- 12 is the frame after 11: what 11 left waits, from the turn that it gave
+abbrev eleven : Handed
+eleven = handFor ten (three 20 20 20) 0
+
+abbrev twelve : Handed
+twelve = handFor ten (three (20 - eleven .packets .a) (20 - eleven .packets .b) (20 - eleven .packets .c)) (eleven .turn)
+
 unfoldable pub examples : List Example
 examples =
     example 1 (descriptions.outputFor annexC 0 (replicate 10 0)) (0x01 ∷ 0x00 ∷ 0x04 ∷ 0x51 ∷ 0x03 ∷ 0xb0 ∷ 0x00 ∷ 0x01 ∷ 0x30 ∷ 0x00 ∷ [])
@@ -66,6 +73,6 @@ examples =
     ∷ example 8 (time (nextFor (stamp 0 1 600))) (0 ∷ 2 ∷ 0 ∷ [])
     ∷ example 9 (handed (handFor ten (three 20 1 0) 0)) (0 ∷ 9 ∷ 1 ∷ 0 ∷ 0 ∷ 1 ∷ [])
     ∷ example 10 (handed (handFor ten (three 0 20 0) 0)) (0 ∷ 0 ∷ 6 ∷ 0 ∷ 4 ∷ 2 ∷ [])
-    ∷ example 11 (handed (handFor ten (three 20 20 20) 0)) (0 ∷ 4 ∷ 4 ∷ 2 ∷ 0 ∷ 2 ∷ [])
-    ∷ example 12 (handed (handFor ten (three 16 16 18) 2)) (0 ∷ 4 ∷ 3 ∷ 3 ∷ 0 ∷ 1 ∷ [])
+    ∷ example 11 (handed eleven) (0 ∷ 4 ∷ 4 ∷ 2 ∷ 0 ∷ 2 ∷ [])
+    ∷ example 12 (handed twelve) (0 ∷ 4 ∷ 3 ∷ 3 ∷ 0 ∷ 1 ∷ [])
     ∷ []

@@ -1,18 +1,26 @@
 -- The wrong programs that 01 lists ("Acceptance of the promises"), each as a condition on a function from what a call is handed to its answer
 -- and the lent memory after it; and what it is for such a function to meet the promise of the call. Assumes nothing.
-use Prim.Native.Nat.{ℕ, _+_}
+use Prim.Native.Nat.{ℕ, _+_, _<_}
 use mathlib.Core.Path.{_≡_}
 use mathlib.Core.List.{List}
-use lib.ListN.{take}
+use lib.ListN.{length, take}
 use Rattle.laws.specs.Written.{written}
+use Rattle.demand.specs.Bytes.{packetsIn, saying}
 use Rattle.dispersal.specs.Dispersal as dispersal
+use Rattle.hand.specs.Settings.{at}
 use Rattle.hand.specs.declared.Settings.{Settings}
 use Rattle.mdi.specs.declared.Answer.{Answer}
 use Rattle.mdi.specs.Reading.{readFor}
 use Rattle.packet.specs.Packet.{decode}
+use Rattle.receiver.specs.declared.Answer as heard
+use Rattle.receiver.specs.declared.Answer.the-variants.{Nothing, Delivered, Refused}
+use Rattle.receiver.specs.declared.Receiver.{Receiver}
+use Rattle.receiver.specs.declared.Told.{Told}
+use Rattle.receiver.specs.Receiver.{stepFor, bufferFor}
 use Rattle.sender.specs.declared.Framed.{Framed}
 use Rattle.sender.specs.declared.Loaded.{Loaded}
 use Rattle.sender.specs.declared.Sender.{Sender}
+use Rattle.sender.specs.State.{queueOf}
 use Rattle.sender.specs.Frame as frames
 use Rattle.sender.specs.Load as loads
 use Rattle.sender.specs.Outer.{outerLoaded, outerFramed}
@@ -28,9 +36,9 @@ Reads f = (packet : List ℕ) → f packet ≡ readFor packet
 abbrev pub RefusesAll : Reader → Type 0
 RefusesAll f = (packet : List ℕ) → f packet .number ≡ 0 → ⊥
 
--- one fixed record for all packets
+-- one fixed record for all packets that it takes
 abbrev pub OneRecord : Reader → Type 0
-OneRecord f = (x y : List ℕ) → f x .content ≡ f y .content
+OneRecord f = (x y : List ℕ) → f x .number ≡ 0 → f y .number ≡ 0 → f x .content ≡ f y .content
 
 -- ---- dispersal: input and output before it; number and output after it
 abbrev pub Disperser : Type 0
@@ -42,6 +50,23 @@ Disperses f = (input output : List ℕ) → (f input output .0 ≡ dispersal.num
 -- dispersal that copies
 abbrev pub Copies : Disperser → Type 0
 Copies f = (input output : List ℕ) → f input output .0 ≡ 0 → f input output .1 ≡ written output 0 input
+
+-- ---- receiving: p, the record, the packet, the buffer before it; answer with the record, and the buffer after it
+abbrev pub Listener : Type 0
+Listener = ℕ → Receiver → List ℕ → List ℕ → Told × List ℕ
+
+abbrev pub Receives : Listener → Type 0
+Receives f = (p : ℕ) (r : Receiver) (packet buffer : List ℕ) →
+    (f p r packet buffer .0 ≡ stepFor p r packet (length buffer)) × (f p r packet buffer .1 ≡ bufferFor p r packet buffer)
+
+abbrev pub isUnit : heard.Answer → Type 0
+isUnit Nothing = ⊥
+isUnit (Delivered id n) = Unit {0}
+isUnit (Refused number) = ⊥
+
+-- a receiver that never delivers
+abbrev pub NeverDelivers : Listener → Type 0
+NeverDelivers f = (p : ℕ) (r : Receiver) (packet buffer : List ℕ) → isUnit (f p r packet buffer .0 .answer) → ⊥
 
 -- ---- loading: settings, state, id, unit, store before it; answer and store after it
 abbrev pub Loader : Type 0
@@ -84,7 +109,19 @@ ThenFiller f = (g : Settings) (s : Sender) (store out : List ℕ) → f g s stor
 abbrev pub ThenRefuses : Framer → Type 0
 ThenRefuses f = (g : Settings) (s : Sender) (store out : List ℕ) → f g s store out .0 .number ≡ 0 → again f g s store out .0 .number ≡ 0 → ⊥
 
--- packet counts invented: the same ones whatever was sent
+-- the arrays of a state are as long as their types say: three queues of eight places
+abbrev pub Shaped : Sender → Type 0
+Shaped s = (length (s .q) ≡ 3) × ((id : ℕ) → id < 3 → length (queueOf s id .left) ≡ 8)
+
+-- the packets of an id in a frame of N packets, read one by one
+abbrev pub heldBy : Settings → ℕ → List ℕ → ℕ
+heldBy g id frame = length (saying id (packetsIn (g .p) (g .n) frame))
+
+-- the reported packets of each queue and the reported filler are those of its own output
+abbrev pub Counts : Framer → Type 0
+Counts f = (g : Settings) (s : Sender) (store out : List ℕ) → Shaped s → f g s store out .0 .number ≡ 0 →
+    ((id : ℕ) → id < 3 → at (f g s store out .0 .packets) id ≡ heldBy g id (f g s store out .2)) × (f g s store out .0 .filler ≡ heldBy g 3 (f g s store out .2))
+
+-- packet counts invented: they are not those
 abbrev pub Invents : Framer → Type 0
-Invents f = (g : Settings) (s t : Sender) (store out : List ℕ) → f g s store out .0 .number ≡ 0 → f g t store out .0 .number ≡ 0
-    → f g s store out .0 .packets ≡ f g t store out .0 .packets
+Invents f = Counts f → ⊥

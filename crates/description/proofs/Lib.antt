@@ -5,5 +5,4 @@ pub mod Writing
 pub mod Meaning
 pub mod Back
 pub mod RoundTrips
-pub mod Examples
 pub mod Settled

@@ -75,8 +75,3 @@ twice-from r (x ∷ xs) = ap₂ (λ (y : ℕ) (l : List ℕ). y ∷ l) (xor-twic
 pub twice : (xs : List ℕ) → dispersed (dispersed xs) ≡ xs
 unfolding dispersed
 twice xs = twice-from ones xs
-
--- two zero bytes give 07 BE
-pub zeros : dispersed (0 ∷ 0 ∷ []) ≡ 0x07 ∷ 0xbe ∷ []
-unfolding dispersed dispersedFrom next push
-zeros = refl
