@@ -1,6 +1,7 @@
 /* An example host: the Sunday in October with two two-o'clocks. News pages (queue 0), map files (queue 1) and the timetable (queue 2)
    share one packet stream. The machine that sends the map files starts at two o'clock, and so it starts twice; the news must not wait for
-   it. Each frame goes packet by packet through the packet check to a receiver, as at the far end of the line.
+   it. Each frame is dispersed for the air; at the far end dispersal gives it back, and it goes packet by packet through the packet check to a
+   receiver.
    usage: example [FRAMES]: the frames of an hour, 9,000 of 400 ms unless told otherwise. Status 0: all units came back, none was late. */
 #include <stdio.h>
 #include <stdlib.h>
@@ -16,7 +17,7 @@ static const size_t map_files = 5000, map_bytes = 1300, page_bytes = 1200, table
 /* What a host keeps: the sender with its store, the receiver with its buffer. The library keeps nothing. */
 static struct keshgurvat_sender sender;
 static struct keshgurvat_receiver receiver;
-static uint8_t store[KESHGURVAT_STORE], buffer[KESHGURVAT_BUFFER], frame[8190];
+static uint8_t store[KESHGURVAT_STORE], buffer[KESHGURVAT_BUFFER], frame[8190], air[8190], far_end[8190];
 
 /* and its own books: of each queue the units loaded and delivered, and of each unfinished unit when it came and its promise */
 static struct book {
@@ -71,16 +72,19 @@ static void delivered(size_t id, size_t length, size_t now) {
 }
 
 static void run_frame(size_t now) {
-    const size_t size = settings.p + 3;
+    const size_t size = settings.p + 3, whole = settings.n * size;
     struct keshgurvat_framed f = keshgurvat_frame(sender, settings, store, sizeof store, frame, sizeof frame);
     if (f.number) fault("a frame is refused with", f.number);
     sender = f.next;
     book[NEWS].packets += f.packets.a, book[MAPS].packets += f.packets.b, book[TIMETABLE].packets += f.packets.c;
     filler += f.filler;
-    for (size_t at = 0; at < settings.n * size; at += size) {
-        uint32_t number = keshgurvat_packet_check(settings.p, frame + at, size);
+    uint32_t there = keshgurvat_disperse(frame, whole, air, sizeof air), back = keshgurvat_disperse(air, whole, far_end, sizeof far_end);
+    if (there || back) fault("dispersal is refused with", there ? there : back);
+    if (!memcmp(air, frame, whole) || memcmp(far_end, frame, whole)) fault("a frame is not dispersed, or does not come back, at", now);
+    for (size_t at = 0; at < whole; at += size) {
+        uint32_t number = keshgurvat_packet_check(settings.p, far_end + at, size);
         if (number) fault("a packet is refused with", number);
-        struct keshgurvat_received r = keshgurvat_receive(receiver, settings.p, buffer, sizeof buffer, frame + at, size);
+        struct keshgurvat_received r = keshgurvat_receive(receiver, settings.p, buffer, sizeof buffer, far_end + at, size);
         if (r.number) fault("the receiver refuses with", r.number);
         receiver = r.next;
         if (r.delivered) delivered(r.id, r.length, now);
