@@ -19,6 +19,9 @@ use Rattle.sender.specs.State.{queueOf, indexOf}
 use Rattle.sender.specs.Frame.{Fit, handOf, frameNumber, framed, frameFor, frameBytes, outFor}
 use Rattle.sender.specs.declared.Sender.{Sender}
 use Rattle.sender.specs.declared.Framed.{Framed}
+use Rattle.sender.specs.declared.Front.{Front}
+use Rattle.sender.specs.Answers as answers
+use Rattle.sender.specs.Outer.{outer, outerFramed}
 use Rattle.sender.proofs.Faults.{Fine, fine-of}
 use Rattle.sender.proofs.Framing.{fit-of}
 use Rattle.demand.specs.Run.{Desk}
@@ -26,7 +29,7 @@ use Rattle.demand.proofs.Good.{Good}
 use Rattle.demand.proofs.Rows.{counted, counted-filler}
 use Rattle.acceptance.specs.Wrong.{Framer, Frames, Shaped, heldBy, Counts, Invents}
 
-module _ (g : Settings) (s : Sender) (store out : List ℕ) where
+module _ (g : Settings) (s : Front) (store out : List ℕ) where
   number-is : frameFor g s store out .number ≡ frameNumber g s store out
   unfolding frameFor framed
   number-is = go (eqb (frameNumber g s store out) 0) refl
@@ -39,7 +42,7 @@ module _ (g : Settings) (s : Sender) (store out : List ℕ) where
   abbrev desk : Desk
   desk = record { state = s; store = store }
 
-  module _ (shape : Shaped s) (e : frameNumber g s store out ≡ 0) where
+  module _ (shape : Shaped (outer s)) (e : frameNumber g s store out ≡ 0) where
     fit : Fit g s (length store) (length out)
     unfolding frameNumber
     fit = fit-of g s (length store) (length out) e
@@ -78,23 +81,25 @@ module _ (g : Settings) (s : Sender) (store out : List ℕ) where
     queues-count : (id : ℕ) → id < 3 → at (frameFor g s store out .packets) id ≡ heldBy g id (outFor g s store out)
     unfolding framed written
     queues-count id h =
-        ap (λ (a : Framed). at (a .packets) id) answer-is
+        ap (λ (a : answers.Framed). at (a .packets) id) answer-is
         ∙ sym (counted g desk good al (drop (0 + length (frameBytes g s store)) out) id h)
         ∙ ap (heldBy g id) (sym output-is)
 
     filler-counts : frameFor g s store out .filler ≡ heldBy g 3 (outFor g s store out)
     unfolding framed written
     filler-counts =
-        ap (λ (a : Framed). a .filler) answer-is
+        ap (λ (a : answers.Framed). a .filler) answer-is
         ∙ sym (counted-filler g desk good al (drop (0 + length (frameBytes g s store)) out))
         ∙ ap (heldBy g 3) (sym output-is)
 
 pub counts : (f : Framer) → Frames f → Counts f
+unfolding outerFramed
 counts f meets g s store out shape z =
     let m = meets g s store out in
-    let e : frameNumber g s store out ≡ 0 = sym (number-is g s store out) ∙ ap (λ (a : Framed). a .number) (sym (m .0)) ∙ z in (
-      (λ id h. ap (λ (a : Framed). at (a .packets) id) (m .0) ∙ queues-count g s store out shape e id h ∙ ap (heldBy g id) (sym (m .2))),
-      ap (λ (a : Framed). a .filler) (m .0) ∙ filler-counts g s store out shape e ∙ ap (heldBy g 3) (sym (m .2)),
+    let t = s .front in
+    let e : frameNumber g t store out ≡ 0 = sym (number-is g t store out) ∙ ap (λ (a : Framed). a .number) (sym (m .0)) ∙ z in (
+      (λ id h. ap (λ (a : Framed). at (a .packets) id) (m .0) ∙ queues-count g t store out shape e id h ∙ ap (heldBy g id) (sym (m .2))),
+      ap (λ (a : Framed). a .filler) (m .0) ∙ filler-counts g t store out shape e ∙ ap (heldBy g 3) (sym (m .2)),
     )
 
 pub no-invention : (f : Framer) → Frames f → Invents f → ⊥

@@ -5,7 +5,7 @@ use mathlib.Core.Path.{_≡_}
 use mathlib.Core.List.{List}
 use lib.ListN.{length, take}
 use Rattle.laws.specs.Written.{written}
-use Rattle.demand.specs.Bytes.{packetsIn, saying}
+use Rattle.demand.specs.Bytes.{split, ofId}
 use Rattle.dispersal.specs.Dispersal as dispersal
 use Rattle.hand.specs.Settings.{at}
 use Rattle.hand.specs.declared.Settings.{Settings}
@@ -111,11 +111,11 @@ ThenRefuses f = (g : Settings) (s : Sender) (store out : List ℕ) → f g s sto
 
 -- the arrays of a state are as long as their types say: three queues of eight places
 abbrev pub Shaped : Sender → Type 0
-Shaped s = (length (s .q) ≡ 3) × ((id : ℕ) → id < 3 → length (queueOf s id .left) ≡ 8)
+Shaped s = (length (s .front .q) ≡ 3) × ((id : ℕ) → id < 3 → length (queueOf (s .front) id .left) ≡ 8)
 
 -- the packets of an id in a frame of N packets, read one by one
 abbrev pub heldBy : Settings → ℕ → List ℕ → ℕ
-heldBy g id frame = length (saying id (packetsIn (g .p) (g .n) frame))
+heldBy g id frame = length (ofId (g .p) id (split (g .p + 3) (g .n) frame))
 
 -- the reported packets of each queue and the reported filler are those of its own output
 abbrev pub Counts : Framer → Type 0
