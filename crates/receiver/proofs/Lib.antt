@@ -4,3 +4,4 @@ pub mod Balance
 pub mod Examples
 pub mod Settled
 pub mod Sound
+mod Facts

@@ -227,3 +227,16 @@ impl Receiver {
         self.take(head, &packet[from..to], buffer)
     }
 }
+
+// The outer call (01: "a thin outer receiver call updates the caller's four-id record through a mutable loan"). What decides is the step by value.
+// One packet, as `Receiver::step` has it: the answer is returned, and the record after the call stands where the one before stood.
+pub fn step_in(r: &mut Receiver, p: usize, buffer: &mut [u8], packet: &[u8]) -> Answer
+    ensures answer { λ a. ⌜ a ≡ stepFor p (now (r .entry)) (now (packet .entry)) (length (now (buffer .entry))) .answer ⌝ }
+    ensures values { λ a. ⌜ told a ≡ saidFor p (now (r .entry)) (now (packet .entry)) (length (now (buffer .entry))) ⌝ }
+    ensures state { λ _. ⌜ now (r .exit) ≡ stepFor p (now (r .entry)) (now (packet .entry)) (length (now (buffer .entry))) .next ⌝ }
+    ensures memory { λ _. ⌜ now (buffer .exit) ≡ bufferFor p (now (r .entry)) (now (packet .entry)) (now (buffer .entry)) ⌝ }
+{
+    let t = Receiver::step(*r, p, buffer, packet);
+    *r = t.next;
+    t.answer
+}

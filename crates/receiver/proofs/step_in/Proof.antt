@@ -1,4 +1,4 @@
--- `receiver_lent::step_in` meets its contract: a walk of its MIR, by hand. Assumes nothing.
+-- `receiver::step_in` meets its contract: a walk of its MIR, by hand. Assumes nothing.
 use mathlib.Core.Path.{_≡_, refl, ap}
 use Prim.Native.Nat.{ℕ, _<_, _^_}
 use mathlib.Core.List.{[], _∷_, List}
@@ -40,25 +40,25 @@ use denote.Triple.Table.{entered, cited}
 use denote.Triple.Walked.{Stays, stay-ref, stay-none, stay-none-slice, gave-slice, walkOf, AllGo, goes-ref, goes-none, goes-none-slice, goes-gave-slice, Walks, ends-at, walked, walk-meets}
 use denote.Triple.Clauses.{ensured, lasts}
 use denote.Exit.{yes}
 use Rattle.receiver.specs.declared.Receiver.{Receiver}
 use Rattle.receiver.specs.declared.Answer.{Answer}
 use Rattle.receiver.specs.declared.Told.{Told}
 use Rattle.receiver.specs.Receiver.{stepFor, told, saidFor, bufferFor}
 use Rattle.receiver.proofs.Receiver as T
 use Rattle.receiver.proofs.Receiver.Laws as T′
 use Rattle.receiver.proofs.Told as K
 use Rattle.receiver.proofs.Told.Laws as K′
 use Rattle.receiver.proofs.Answer as N
 use Rattle.receiver.proofs.Answer.Laws as N′
 use Rattle.receiver.proofs.Receiver.step as step
 use Rattle.receiver.proofs.Receiver.step.Symbol as step-def
 use Rattle.receiver.proofs.Receiver.step.Symbol.{name as #step}
 use Rattle.receiver.proofs.Receiver.step.Met as step-thm
-use Rattle.receiver_lent.proofs.Facts.{says-four}
-use Rattle.receiver_lent.proofs.step_in.Key.{name as #step-in}
-use Rattle.receiver_lent.proofs.step_in as step-in
-use Rattle.receiver_lent.proofs.step_in.Statement as stated
-use Rattle.receiver_lent.proofs.step_in.Code as code
+use Rattle.receiver.proofs.Facts.{says-four}
+use Rattle.receiver.proofs.step_in.Key.{name as #step-in}
+use Rattle.receiver.proofs.step_in as step-in
+use Rattle.receiver.proofs.step_in.Statement as stated
+use Rattle.receiver.proofs.step_in.Code as code
 
 -- the slots of the two slices: the second and the third of the signature's lifetimes
 abbrev stayed : Stays (step-in.ended .signature .params) (step-in.ended .kept)
