@@ -5,3 +5,4 @@ pub mod Examples
 pub mod Settled
 pub mod Sound
 mod Facts
+pub mod Rules

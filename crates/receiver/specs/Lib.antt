@@ -3,3 +3,4 @@ pub mod Receiver
 pub mod Line
 pub mod Bytes
 pub mod Run
+pub mod Rules
