@@ -17,7 +17,7 @@ use Rattle.queue.proofs.Sending.{waits-send}
 use Rattle.row.specs.Row.{headLen, popped, dropFirst, stepped, steps, Whole}
 use Rattle.row.specs.Content.{cut, contentOf, begunIn, chunkOf, restOf, begunOf, rests, begunAfter, chunks}
 use Rattle.row.specs.declared.Out.{Out}
-use Rattle.row.proofs.Taken.{pop-at}
+use Rattle.queue.proofs.Taken.{pop-at}
 use Rattle.row.proofs.Steps.{sound-in, whole-steps}
 use Rattle.demand.proofs.Served.{steps-units}
 use Rattle.demand.proofs.Rows.{chunkAt, rowChunks}

@@ -11,7 +11,7 @@ use Rattle.queue.specs.Queue.{units, waiting}
 use Rattle.queue.specs.Send.{one, send, waits}
 use Rattle.row.specs.Row.{steps, stepped, Whole}
 use Rattle.row.specs.declared.Out.{Out}
-use Rattle.row.proofs.Taken.{pop-at}
+use Rattle.queue.proofs.Taken.{pop-at}
 use Rattle.row.proofs.Steps.{whole-steps, sound-in}
 use Rattle.sender.specs.State.{queueOf, outOf, waitingOf}
 use Rattle.sender.specs.Frame.{handOf, endsOf, nextFrom}

@@ -1,7 +1,8 @@
 // One queue of units (01, "Packets, queues and receiver"): its state by value, in numbers. The bytes themselves stand in the lent store.
 ghost use mathlib.Core.Path.{_≡_};
 ghost use Prim.Native.Nat.{_%_, _≤_, min};
-ghost use Rattle.queue.specs.Queue.{packets, units, unsent, waiting, anyEmpty, broken, noUnits, pushed};
+ghost use Rattle.queue.specs.Queue.{packets, unsent, waiting, broken, noUnits, pushed};
+ghost use Rattle.queue.specs.Taken.{headLen, dropFirst, popFor};
 
 // Up to eight units that are not finished, in the order of loading: the bytes left of each, and how many bytes of the first are sent.
 #[repr(C)]
@@ -88,23 +89,7 @@ impl Queue {
         sum
     }
 
-    // Some unit has no byte left.
-    fn has_empty(self) -> bool
-        ensures { λ r. ⌜ r ≡ anyEmpty (units self) ⌝ }
-    {
-        let n = self.used();
-        let left = self.left;
-        let mut i = 0;
-        while i < n {
-            if left[i] == 0 {
-                return true;
-            }
-            i += 1;
-        }
-        false
-    }
-
-    // One of the faults of refusal 17.
+    // One of the faults of refusal 17, in one pass over the units.
     pub fn is_broken(self, p: u8) -> bool
         ensures { λ r. ⌜ r ≡ broken p self ⌝ }
     {
@@ -113,10 +98,18 @@ impl Queue {
         if 8 < n {
             return true;
         }
-        if self.has_empty() {
-            return true;
+        let left = self.left;
+        let mut i = 0;
+        let mut unsent: usize = 0;
+        while i < n {
+            let x = wide(left[i]);
+            if x == 0 {
+                return true;
+            }
+            unsent += x;
+            i += 1;
         }
-        if 4096 < self.unsent() {
+        if 4096 < unsent {
             return true;
         }
         if rest(sent, p) != 0 {
@@ -129,11 +122,10 @@ impl Queue {
         if 4096 < sent {
             return true;
         }
-        let left = self.left;
         4096 < wide(left[0]) + sent
     }
 
-    // One unit of n bytes more, where there are fewer than eight.
+    // One unit of n unsent more, where there are fewer than eight.
     pub fn pushed(self, n: u16) -> Queue
         ensures { λ r. ⌜ r ≡ pushed self n ⌝ }
     {
@@ -144,6 +136,51 @@ impl Queue {
         let mut r = self;
         r.left[at] = n;
         r.count = at + 1;
+        r
+    }
+
+    // The useful bytes of the next packet of p data bytes.
+    pub fn head_len(self, p: usize) -> usize
+        ensures { λ r. ⌜ (r ≡ headLen p self) × (r ≤ p) × (r ≤ unsent self) ⌝ }
+    {
+        if self.count == 0 {
+            return 0;
+        }
+        let x = wide(self.left[0]);
+        if x <= p { x } else { p }
+    }
+
+    // The queue without its first unit.
+    fn drop_first(self) -> Queue
+        requires { ⌜ 1 ≤ self .count ⌝ }
+        ensures { λ r. ⌜ r ≡ dropFirst self ⌝ }
+    {
+        let l = self.left;
+        let w = [l[1], l[2], l[3], l[4], l[5], l[6], l[7], 0];
+        Queue {
+            left: w,
+            count: self.count - 1,
+            sent: 0,
+        }
+    }
+
+    // The queue without its next packet of p data bytes. One with more bytes sent than a unit has stays as it is.
+    pub fn pop(self, p: u16) -> Queue
+        ensures { λ r. ⌜ r ≡ popFor p self ⌝ }
+    {
+        if 4096 < self.sent {
+            return self;
+        }
+        if self.count == 0 {
+            return self;
+        }
+        let x = self.left[0];
+        if x <= p {
+            return self.drop_first();
+        }
+        let mut r = self;
+        r.left[0] = x - p;
+        r.sent = self.sent + wide(p);
         r
     }
 }

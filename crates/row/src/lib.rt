@@ -2,10 +2,11 @@
 use queue::Queue;
 ghost use mathlib.Core.Path.{_≡_};
 ghost use Prim.Native.Nat.{_+_, _*_, _≤_, _<_};
-ghost use lib.ListN.{length};
+ghost use lib.ListN.{length, take, drop};
 ghost use Rattle.laws.specs.Written.{written};
-ghost use Rattle.queue.specs.Queue.{unsent};
-ghost use Rattle.row.specs.Row.{headLen, dropFirst, popped, Whole, stepped, packetAt, steps, outs, fits, rowFor, rowOut};
+ghost use Rattle.packet.specs.Calls.{outFor};
+ghost use Rattle.packet.specs.Packet.{packetOf};
+ghost use Rattle.row.specs.Row.{Whole, stepped, packetAt, steps, outs, fits, rowFor, rowOut};
 
 // Where the writing of a queue's packets stands: what is left, how many of its bytes are read, and the next index.
 pub struct Out {
@@ -20,47 +21,22 @@ fn wide(x: u16) -> usize
     x as usize
 }
 
-// The useful bytes of the queue's next packet.
-fn head_len(q: Queue, p: usize) -> usize
-    ensures { λ r. ⌜ (r ≡ headLen p q) × (r ≤ p) × (r ≤ unsent q) ⌝ }
+// A packet whose n useful bytes stand in the region from place at on: all that is read of a queue's part of the store.
+fn write_from(
+    p: usize,
+    first: bool,
+    last: bool,
+    id: u8,
+    index: u8,
+    region: &[u8],
+    at: usize,
+    n: usize,
+    dst: &mut [u8],
+)
+    requires { ⌜ at + n ≤ length (now region) ⌝ }
+    ensures { λ _. ⌜ now (dst .exit) ≡ outFor p (packetOf first last id index (take n (drop at (now (region .entry))))) (now (dst .entry)) ⌝ }
 {
-    if q.count == 0 {
-        return 0;
-    }
-    let x = wide(q.left[0]);
-    if x <= p { x } else { p }
-}
-
-// The queue without its first unit.
-fn drop_first(q: Queue) -> Queue
-    requires { ⌜ 1 ≤ q .count ⌝ }
-    ensures { λ r. ⌜ r ≡ dropFirst q ⌝ }
-{
-    let l = q.left;
-    let w = [l[1], l[2], l[3], l[4], l[5], l[6], l[7], 0];
-    Queue {
-        left: w,
-        count: q.count - 1,
-        sent: 0,
-    }
-}
-
-// The queue without its next packet.
-fn pop(q: Queue, p: u16) -> Queue
-    requires { ⌜ q .sent ≤ 4096 ⌝ }
-    ensures { λ r. ⌜ r ≡ popped p q ⌝ }
-{
-    if q.count == 0 {
-        return q;
-    }
-    let x = q.left[0];
-    if x <= p {
-        return drop_first(q);
-    }
-    let mut r = q;
-    r.left[0] = x - p;
-    r.sent = q.sent + wide(p);
-    r
+    packet::write(p, first, last, id, index, &region[at..at + n], dst);
 }
 
 // The next packet, read from the queue's part of the store.
@@ -74,10 +50,10 @@ fn step_out(o: Out, p: u16, id: u8, region: &[u8], dst: &mut [u8]) -> Out
     let index = o.index;
     let x = q.left[0];
     let w = wide(p);
-    let n = head_len(q, w);
-    packet::write(w, q.sent == 0, x <= p, id, index, &region[at..at + n], dst);
+    let n = q.head_len(w);
+    write_from(w, q.sent == 0, x <= p, id, index, region, at, n, dst);
     Out {
-        q: pop(q, p),
+        q: q.pop(p),
         at: at + n,
         index: (index + 1) % 8,
     }

@@ -30,11 +30,12 @@ use Rattle.queue.proofs.Faults.{sound-ok}
 use Rattle.queue.proofs.Keep.{none-sound}
 use Rattle.row.specs.Row.{headLen, popped, packetAt, stepped, steps, outs, startOf, fits, rowFor, rowOut}
 use Rattle.row.specs.declared.Out.{Out}
-use Rattle.row.proofs.Taken.{headLen-p}
+use Rattle.queue.proofs.Taken.{headLen-p}
 use Rattle.row.proofs.Steps.{Fit, fit-back, outs-length}
 use Rattle.sender.specs.State.{queueOf, indexOf, outOf, partOf, brokenState, waitingOf}
-use Rattle.sender.specs.Frame.{Ready, handOf, rowAt, nulls, framePackets, endOf, endsOf, nextFrom, closed, closedAll, frameTests, frameNumber, framed, frameFor, frameBytes, outFor, storeAfter}
-use Rattle.sender.specs.Frame as spec
+use Rattle.sender.specs.Frame.{handOf, rowAt, nulls, framePackets, endOf, endsOf, nextFrom, closed, closedAll, frameTests, frameNumber, framed, frameFor, frameBytes, outFor, storeAfter}
+use Rattle.sender.specs.Private.{Ready}
+use Rattle.sender.specs.Private as private
 use Rattle.sender.specs.declared.Front.{Front}
 use Rattle.sender.specs.Answers.{Framed}
 use Rattle.sender.specs.declared.Ends.{Ends}
@@ -182,7 +183,7 @@ module _ (g : Settings) (s : Front) (room size : ℕ) where
           unfolding frameTests
           no-0 h = simp (← ek, eq-eqb k 0 hk, ← eb, hb, eq-eqb _ _ hr, le-ltb _ _ h)
 
-  pub fit-of : refusedWith (frameTests g s room size) ≡ 0 → spec.Fit g s room size
+  pub fit-of : refusedWith (frameTests g s room size) ≡ 0 → private.Fit g s room size
   unfolding frameTests
   fit-of e =
       let t = free (frameTests g s room size) (lit< tt, (lit< tt, (lit< tt, (lit< tt, tt)))) e in
@@ -193,14 +194,14 @@ module _ (g : Settings) (s : Front) (room size : ℕ) where
         fits = ltb-false size (g .n * (g .p + 3)) (t .1 .1 .1 .0);
       }
 
-  pub fit-back-of : spec.Fit g s room size → refusedWith (frameTests g s room size) ≡ 0
+  pub fit-back-of : private.Fit g s room size → refusedWith (frameTests g s room size) ≡ 0
   unfolding frameTests
   fit-back-of f =
       accepted (frameTests g s room size)
       (ap not (eq-eqb (settingsFor g) 0 (f .allowed-in)), (f .fine, (ap not (eq-eqb room 12288 (f .whole)), (le-ltb size (g .n * (g .p + 3)) (f .fits), tt))))
 
 -- ---- where the checks have passed
-module _ (g : Settings) (s : Front) (room size : ℕ) (f : spec.Fit g s room size) where
+module _ (g : Settings) (s : Front) (room size : ℕ) (f : private.Fit g s room size) where
   settings : Allowed g
   settings = allowed g (f .allowed-in)
 
@@ -265,7 +266,7 @@ module _ (g : Settings) (s : Front) (store out : List ℕ) (k : ℕ) (e : k ≡ 
   unfolding frameFor storeAfter outFor frameNumber
   frame-refused h = (simp (← e, ne-eqb k 0 h), (simp (← e, ne-eqb k 0 h), simp (← e, ne-eqb k 0 h)))
 
-  pub frame-fit : k ≡ 0 → spec.Fit g s (length store) (length out)
+  pub frame-fit : k ≡ 0 → private.Fit g s (length store) (length out)
   frame-fit z = fit-of g s (length store) (length out) (sym e ∙ z)
 
   pub frame-done : k ≡ 0 → (r : Framed) (d f : List ℕ) → r ≡ framed g s → d ≡ closedAll (g .p) s (handOf g s .packets) store → f ≡ written out 0 (frameBytes g s store)

@@ -1,8 +1,7 @@
 -- A frame (01, "Packets, queues and receiver"): all packets of id 0, of id 1, of id 2, then filler. Assumes nothing.
-use Prim.Native.Nat.{ℕ, zero, suc, _+_, _*_, _%_, _≤_}
-use mathlib.Core.Path.{_≡_}
+use Prim.Native.Nat.{ℕ, zero, suc, _+_, _*_, _%_}
 use mathlib.Core.List.{List, [], _∷_, _++_}
-use mathlib.Core.Bool.{true, false, not}
+use mathlib.Core.Bool.{true, not}
 use lib.Dec.{ltb, eqb}
 use lib.ListN.{length}
 use Rattle.laws.specs.Pick.{pick}
@@ -96,15 +95,3 @@ outFor g s store out = pick (eqb (frameNumber g s store out) 0) (written out 0 (
 
 unfoldable pub storeAfter : Settings → Front → List ℕ → List ℕ → List ℕ
 storeAfter g s store out = pick (eqb (frameNumber g s store out) 0) (closedAll (g .p) s (handOf g s .packets) store) store
-
--- ---- what the checks establish
-pub record Ready (p : ℕ) (s : Front) (room : ℕ) : Type 0 where
-  pub low : 1 ≤ p
-  pub fine : brokenState p s ≡ false
-  pub whole : room ≡ 12288
-
-pub record Fit (g : Settings) (s : Front) (room size : ℕ) : Type 0 where
-  pub allowed-in : settingsFor g ≡ 0
-  pub fine : brokenState (g .p) s ≡ false
-  pub whole : room ≡ 12288
-  pub fits : g .n * (g .p + 3) ≤ size

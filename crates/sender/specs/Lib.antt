@@ -3,3 +3,4 @@ pub mod Answers
 pub mod Load
 pub mod Frame
 pub mod Outer
+pub mod Private

@@ -12,8 +12,9 @@ ghost use Rattle.laws.specs.Written.{written};
 ghost use Rattle.hand.specs.Settings.{total};
 ghost use Rattle.sender.specs.State.{indexOf, brokenState, fresh, waitingOf};
 ghost use Rattle.sender.specs.Load.{full, loadTests, loadFor, storeFor, Accepted, loaded, placedIn};
+ghost use Rattle.sender.specs.Private.{Ready, Fit};
 ghost use Rattle.sender.specs.Outer.{outer, outerLoaded, outerFramed};
-ghost use Rattle.sender.specs.Frame.{Ready, Fit, endOf, endsOf, nextFrom, rowAt, nulls, framePackets, closed, closedAll, frameTests, handOf, framed, frameBytes, frameFor, storeAfter, outFor};
+ghost use Rattle.sender.specs.Frame.{endOf, endsOf, nextFrom, rowAt, nulls, framePackets, closed, closedAll, frameTests, handOf, framed, frameBytes, frameFor, storeAfter, outFor};
 
 // The three queues, whose turn it is to get a spare, and the next continuity index of each id, filler last.
 // The unsent bytes of each queue stand at the front of its part of the store: hence the name.

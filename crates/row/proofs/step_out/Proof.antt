@@ -13,29 +13,17 @@ wide-requires c κs = search needs
 head-len-requires : tie.Need-head-len-requires
 head-len-requires c κs = search needs
 
-add-write : tie.Need-add-write
-add-write c = search needs
-
-sub-write : tie.Need-sub-write
-sub-write c = search needs
-
-part-write-start : tie.Need-part-write-start
-part-write-start c = search needs
-
-part-write-end : tie.Need-part-write-end
-part-write-end c = search needs
-
-write-requires : tie.Need-write-requires
-write-requires c κs = search needs
+write-from-requires : tie.Need-write-from-requires
+write-from-requires c κs = search needs
 
 pop-requires : tie.Need-pop-requires
 pop-requires c κs = search needs
 
-add-t22 : tie.Need-add-t22
-add-t22 c = search needs
+add-t17 : tie.Need-add-t17
+add-t17 c = search needs
 
-add-t28 : tie.Need-add-t28
-add-t28 c = search needs
+add-t23 : tie.Need-add-t23
+add-t23 c = search needs
 
 same-length : tie.Need-same-length
 same-length c = search needs
@@ -43,10 +31,10 @@ same-length c = search needs
 returns : tie.Need-returns
 returns c =
     let w = c .before .before .before in
-    let h = w .before .before .before in
+    let h = w .before .before in
     let g = h .before .before .before .before .before .before in
     step-is _ _ _ _ (g .args .o) (g .args .region .now) (g .args .dst .now) _ _ (g .pre .2) (g .pre .3) (g .pre .1) (g .pre .0 .index)
-    (h .before .wide .ensures .0) (h .head-len .ensures .0) (c .pop .ensures) (g .pre .4) (w .write .ensures .1)
+    (h .before .wide .ensures .0) (h .head-len .ensures .0) (g .pre .0 .far) (c .pop .ensures) (g .pre .4) (w .write-from .ensures)
 
 pub step-out-spec : {M : Type 1} → statement M
 step-out-spec =
@@ -55,13 +43,9 @@ step-out-spec =
     element-copy-out-x
     wide-requires
     head-len-requires
-    add-write
-    sub-write
-    part-write-start
-    part-write-end
-    write-requires
+    write-from-requires
     pop-requires
-    add-t22
-    add-t28
+    add-t17
+    add-t23
     same-length
     returns)
