@@ -1,27 +1,28 @@
 -- Condition C holds of every run from the fresh state in which p stands. Assumes nothing.
 use Prim.Native.Nat.{ℕ, zero, suc, _+_, _*_, _<_, _≤_, min}
 use mathlib.Core.Path.{_≡_, refl, sym, ap, ap₂, _∙_, subst}
-use mathlib.Core.List.{List, [], _∷_, _++_}
+use mathlib.Core.List.{List, [], _∷_, _++_, map}
 use mathlib.Core.Bool.{Bool, true, false, _||_}
 use native.Mathlib.Omega.{arith}
 use borrow.Author.Tests.{eq-eqb, ltb-false}
+use mathlib.Core.Logic.{_↔_}
 use lib.Dec.{ltb, leb}
 use lib.ListN.{length, replicate}
-use Rattle.hand.specs.Settings.{at, total}
+use Rattle.hand.specs.Settings.{at, total, Allowed}
 use Rattle.hand.specs.declared.Settings.{Settings}
-use Rattle.queue.specs.Queue.{addUp, same, packets, unsent}
+use Rattle.queue.specs.Queue.{addUp, same, packets, units, unsent}
 use Rattle.queue.specs.Send.{shares}
 use Rattle.queue.proofs.Sending.{ceil-le}
-use Rattle.sender.specs.State.{waitingOf, brokenState}
+use Rattle.sender.specs.State.{queueOf, waitingOf, brokenState}
 use Rattle.sender.specs.Load.{full, loadTests, loadNumber}
 use Rattle.sender.specs.Frame.{handOf}
 use Rattle.sender.proofs.Loading.{passed}
 use Rattle.demand.specs.Bytes.{split, ofId, saying}
 use Rattle.demand.specs.Run.{Act, load, frame, Desk, freshDesk, numberOf, after, run, Answer, answer}
-use Rattle.demand.specs.Log.{Event, log, Stands, packetsOf, shareFor, sentOf, sharesOf, waitingAt}
+use Rattle.demand.specs.Log.{Event, log, Stands, packetsOf, shareFor, sentOf, sharesOf, leftOf, waitingAt}
 use Rattle.demand.specs.Condition.{Called, Written, carries, Taken, waitingWith, Ends, SentWithin, fullAt, frameRefused, loadRefused, Condition}
 use Rattle.demand.specs.Within.{history, sentIn, waitingIn}
-use Rattle.demand.proofs.Good.{Good, good-fine, never-17, frame-refused-for}
+use Rattle.demand.proofs.Good.{Good, good-fine, never-17, frame-refused-for, accepted-exactly}
 use Rattle.demand.proofs.Served.{served-here}
 use Rattle.demand.proofs.Counted.{frame-allowed, carried, carried-filler, frame-sum}
 use Rattle.demand.proofs.Seen.{number-is, sent-seen, shares-seen, taken, taken-gather, taken-steady}
@@ -109,6 +110,17 @@ module _ (p : ℕ) (es : List Event) (y : Desk) (m : Mirror p es y) where
       go true f = rw f
       go false f = let h : id ≤ 2 = ltb-false 2 id f in ap (loadRefused g id (length unit)) (full-seen id (length unit) (omega arith))
 
+  room-seen : (g : Settings) (id : ℕ) (unit : List ℕ) → g .p ≡ p → Allowed g → 1 ≤ length unit → length unit ≤ 4096 → id ≤ 2
+      → (numberOf (load g id unit) y ≡ 0) ↔ ((length unit + addUp same (map length (leftOf p id es)) ≤ 4096) × (length (leftOf p id es) < 8))
+  unfolding unsent
+  room-seen g id unit e al lo hi h =
+      let r = accepted-exactly p y (m .good) g id unit e al lo hi h in
+      let c = count-seen p es y m id (omega arith) in
+      let u : addUp same (units (queueOf (y .state) id)) ≡ addUp same (map length (leftOf p id es)) = ap (addUp same) (units-seen p es y m id (omega arith)) in (
+        λ z. let f = r .0 z in (omega (arith, f .0), omega (arith, f .1)),
+        λ f. r .1 (omega (arith, f .0), omega (arith, f .1)),
+      )
+
 -- ---- the condition
 module _ (p : ℕ) (acts : List Act) (store : List ℕ) (hs : length store ≡ 12288) (st : Stands p (log acts (freshDesk store))) where
   abbrev E : List Event
@@ -178,4 +190,7 @@ module _ (p : ℕ) (acts : List Act) (store : List ℕ) (hs : length store ≡ 1
         frames = λ c g out a e. sym (number-at c) ∙ ap (λ (i : Act). numberOf i (at-call c .desk)) a ∙ frame-refused-for p (at-call c .desk) (at-call c .seen .good) g out e;
         loads = λ c g id unit a e.
             sym (number-at c) ∙ ap (λ (i : Act). numberOf i (at-call c .desk)) a ∙ load-number p (c .before) (at-call c .desk) (at-call c .seen) g id unit e;
+        room = λ c g id unit a e al lo hi h.
+            subst (λ (n : ℕ). (n ≡ 0) ↔ ((length unit + addUp same (map length (leftOf p id (c .before))) ≤ 4096) × (length (leftOf p id (c .before)) < 8)))
+            (ap (λ (i : Act). numberOf i (at-call c .desk)) (sym a) ∙ number-at c) (room-seen p (c .before) (at-call c .desk) (at-call c .seen) g id unit e al lo hi h);
       }

@@ -17,5 +17,7 @@ pub mod Parts
 pub mod Counted
 pub mod Condition
 pub mod Reported
+pub mod Joined
+pub mod Rejected
 pub mod Filler
 pub mod Stream

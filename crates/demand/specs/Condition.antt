@@ -3,11 +3,12 @@ use Prim.Native.Nat.{ℕ, _+_, _-_, _*_, _/_, _<_, _≤_, min}
 use mathlib.Core.Path.{_≡_}
 use mathlib.Core.List.{List, [], _∷_, _++_, map}
 use mathlib.Core.Bool.{Bool, false, not, _||_}
+use mathlib.Core.Logic.{_↔_}
 use lib.Dec.{ltb, leb, eqb}
 use lib.ListN.{length, replicate}
 use Rattle.laws.specs.Limits.{longest}
 use Rattle.laws.specs.Refuse.{test, refusedWith}
-use Rattle.hand.specs.Settings.{at, settingsFor}
+use Rattle.hand.specs.Settings.{at, settingsFor, Allowed}
 use Rattle.hand.specs.declared.Settings.{Settings}
 use Rattle.packet.specs.Packet.{Chunk}
 use Rattle.queue.specs.Queue.{addUp, same, packets}
@@ -56,9 +57,14 @@ abbrev pub waitingWith : {es : List Event} → ℕ → Taken es → ℕ
 waitingWith p u = waitingAt p (u .id) (u .before ++ (record { act = load (u .g) (u .id) (u .unit); answer = u .answer } ∷ []))
 
 -- ---- what packets carry
--- a unit in packets of p bytes
+-- a unit in packets of p bytes; joined they are the unit (`pieces-join`)
 abbrev pub piecesOf : ℕ → List ℕ → List Chunk
 piecesOf p unit = chunks p (packets p (length unit)) false (unit ∷ [])
+
+-- the bytes that packets carry, one behind the other
+unfoldable pub joined : List Chunk → List ℕ
+joined [] = []
+joined (c ∷ cs) = c .body ++ joined cs
 
 -- the first k pieces end with the unit, whole and in order
 pub record Ends (p : ℕ) (unit : List ℕ) (k : ℕ) (cs : List Chunk) : Type 0 where
@@ -107,6 +113,10 @@ pub record Condition (p : ℕ) (es : List Event) : Type 0 where
   -- (5) no call is refused for what the last one left: never 17, and a frame only for what is newly handed in
   pub never-17 : (c : Called es) → settingsOf (c .act) .p ≡ p → c .answer .number ≡ 17 → ⊥
   pub frames : (c : Called es) (g : Settings) (out : List ℕ) → c .act ≡ frame g out → g .p ≡ p → c .answer .number ≡ frameRefused g out
-  -- (6) a load only for that or for want of room
+  -- (6) a load only for that or for want of room: a unit that fits is accepted exactly if its length plus its queue's bytes not yet sent is at
+  -- most 4,096 and fewer than eight of its units are unfinished
   pub loads : (c : Called es) (g : Settings) (id : ℕ) (unit : List ℕ) → c .act ≡ load g id unit → g .p ≡ p
       → c .answer .number ≡ loadRefused g id (length unit) (fullAt p id (length unit) (c .before))
+  pub room : (c : Called es) (g : Settings) (id : ℕ) (unit : List ℕ) → c .act ≡ load g id unit → g .p ≡ p → Allowed g → 1 ≤ length unit
+      → length unit ≤ 4096 → id ≤ 2
+      → (c .answer .number ≡ 0) ↔ ((length unit + addUp same (map length (leftOf p id (c .before))) ≤ 4096) × (length (leftOf p id (c .before)) < 8))
