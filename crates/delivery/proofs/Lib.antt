@@ -13,3 +13,4 @@ pub mod Filler
 pub mod Gap
 pub mod Soon
 pub mod Delivery
+pub mod Carried

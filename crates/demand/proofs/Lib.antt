@@ -21,3 +21,4 @@ pub mod Joined
 pub mod Rejected
 pub mod Filler
 pub mod Stream
+pub mod Carried

@@ -7,6 +7,7 @@ use lib.Dec.{lit<}
 use lib.ListN.{length}
 use Rattle.hand.specs.Settings.{at}
 use Rattle.hand.specs.Hand.{countOf, spareIds}
+use Rattle.hand.specs.Served.{Served}
 use Rattle.hand.specs.declared.Three.{Three}
 use Rattle.sender.specs.State.{waitingOf}
 use Rattle.sender.specs.Frame.{handOf}
@@ -14,10 +15,11 @@ use Rattle.demand.specs.Bytes.{split, ofId}
 use Rattle.demand.specs.Run.{Act, frame, Desk, freshDesk, numberOf, Answer, answer}
 use Rattle.demand.specs.Log.{Event, log, Stands, waitingAt}
 use Rattle.demand.specs.Condition.{Written, carries}
-use Rattle.demand.specs.Reported.{waitingThree, stepsOf, Reported}
+use Rattle.demand.specs.Reported.{waitingThree, holds, stepsOf, Reported}
 use Rattle.demand.proofs.Good.{Good}
-use Rattle.demand.proofs.Counted.{carried, carried-filler, frame-sum, reported, steps-reported, spares-reported}
-use Rattle.demand.proofs.Turn.{waits-seen}
+use Rattle.demand.proofs.Served.{served-here}
+use Rattle.demand.proofs.Counted.{frame-allowed, carried, carried-filler, frame-sum, reported, steps-reported, spares-reported}
+use Rattle.demand.proofs.Turn.{three-is, waits-seen}
 use Rattle.demand.proofs.Condition.{at-frame, zero-at}
 
 three-at : (p : ℕ) (es : List Event) (id : ℕ) → id < 3 → at (waitingThree p es) id ≡ waitingAt p id es
@@ -58,6 +60,13 @@ module _ (p : ℕ) (acts : List Act) (store : List ℕ) (hs : length store ≡ 1
     steps-are : spareIds (f .g) (waitingOf (f .g .p) (y .state)) (y .state .turn) ≡ stepsOf p f
     steps-are = ap₂ (spareIds (f .g)) waits (at-frame p acts store hs st f .turn)
 
+    served-told : Served (f .g .n) (waitingThree p (f .before)) (f .g .share) (f .g .ceiling) (holds f)
+    served-told =
+        let got = handOf (f .g) (y .state) .packets in
+        let e : got ≡ holds f = three-is got _ _ _ (sym (counts 0 (lit< tt))) (sym (counts 1 (lit< tt))) (sym (counts 2 (lit< tt))) in
+        subst (λ (w : Three). Served (f .g .n) w (f .g .share) (f .g .ceiling) (holds f)) waits
+        (subst (Served (f .g .n) (waitingOf (f .g .p) (y .state)) (f .g .share) (f .g .ceiling)) e (served-here (f .g) y good (frame-allowed (f .g) (f .lent) y good done)))
+
     packets-told : (id : ℕ) → id < 3 → at (f .answer .packets) id ≡ carries f id
     packets-told id h = ap (λ (b : Answer). at (b .packets) id) is ∙ ap (λ (t : Three). at t id) (reported (f .g) (f .lent) y good done .0) ∙ sym (counts id h)
 
@@ -79,6 +88,7 @@ module _ (p : ℕ) (acts : List Act) (store : List ℕ) (hs : length store ≡ 1
   pub reports : Reported p E
   reports =
       record {
+        served = served-told;
         packets = packets-told;
         filler = filler-told;
         whole = whole-told;

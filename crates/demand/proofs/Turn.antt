@@ -20,7 +20,7 @@ use Rattle.demand.specs.Reported.{waitingThree, turnBy, turnFrom, turnAt
 use Rattle.demand.proofs.Seen.{eventOf, number-is, log-append, run-append}
 use Rattle.demand.proofs.Mirror.{Mirror, mirror, waiting-three}
 
-three-is : (t : Three) (a b c : ℕ) → t .a ≡ a → t .b ≡ b → t .c ≡ c → t ≡ record { a = a; b = b; c = c }
+pub three-is : (t : Three) (a b c : ℕ) → t .a ≡ a → t .b ≡ b → t .c ≡ c → t ≡ record { a = a; b = b; c = c }
 three-is t a b c x y z =
     let F : ℕ → ℕ → ℕ → Three = λ (i j k : ℕ). record { a = i; b = j; c = k } in
     ap (λ (i : ℕ). F i (t .b) (t .c)) x ∙ ap (λ (j : ℕ). F a j (t .c)) y ∙ ap (F a b) z

@@ -1,4 +1,5 @@
--- What a frame reports (01: packets per queue, spares handed out, and filler), of a run: of its calls and what each answered. Assumes nothing.
+-- What a frame holds and what it reports (01: packets per queue, spares handed out, and filler), of a run: of its calls and what each answered.
+-- Assumes nothing.
 use Prim.Native.Nat.{ℕ, _+_, _<_, min}
 use mathlib.Core.Path.{_≡_}
 use mathlib.Core.List.{List, [], _∷_, _++_}
@@ -7,6 +8,7 @@ use lib.ListN.{length}
 use Rattle.laws.specs.Pick.{pick}
 use Rattle.hand.specs.Settings.{at}
 use Rattle.hand.specs.Hand.{handFor, spareIds, countOf}
+use Rattle.hand.specs.Served.{Served}
 use Rattle.hand.specs.declared.Three.{Three}
 use Rattle.demand.specs.Run.{Act, load, frame}
 use Rattle.demand.specs.Log.{Event, waitingAt}
@@ -15,6 +17,10 @@ use Rattle.demand.specs.Condition.{Written, carries}
 -- the packets that wait in each queue
 abbrev pub waitingThree : ℕ → List Event → Three
 waitingThree p es = record { a = waitingAt p 0 es; b = waitingAt p 1 es; c = waitingAt p 2 es }
+
+-- the packets of each queue in a frame that was written
+abbrev pub holds : {es : List Event} → Written es → Three
+holds f = record { a = carries f 0; b = carries f 1; c = carries f 2 }
 
 -- the turn: t behind the calls `before`, then as each frame that is written leaves it
 unfoldable pub turnBy : ℕ → List Event → ℕ → Act → ℕ
@@ -35,6 +41,8 @@ stepsOf p f = spareIds (f .g) (waitingThree p (f .before)) (turnAt p (f .before)
 
 -- of a run in which p stands
 pub record Reported (p : ℕ) (es : List Event) : Type 0 where
+  -- the packets counted in its output serve the queues as condition C asks
+  pub served : (f : Written es) → Served (f .g .n) (waitingThree p (f .before)) (f .g .share) (f .g .ceiling) (holds f)
   -- packets and filler are those counted in the written frame, and these are all of it
   pub packets : (f : Written es) (id : ℕ) → id < 3 → at (f .answer .packets) id ≡ carries f id
   pub filler : (f : Written es) → f .answer .filler ≡ carries f 3
