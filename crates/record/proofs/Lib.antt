@@ -1,3 +1,4 @@
 pub mod Empty
 pub mod Ways
 pub mod Wraps
+pub mod Settled
