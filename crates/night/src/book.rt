@@ -1,67 +1,97 @@
-// The news pages that are on their way: when each was loaded, and the frames that the promise then gave it.
+// What is written down along the night: a list of numbers; the constants name their places. A number a queue stands in three places,
+// by id, one with filler in four.
+use crate::list;
+use crate::plan;
 use crate::text;
+use hand::Three;
 
-// By the page's number modulo 8: at most eight are unfinished. Then the longest wait, its promise, and the pages that came late.
-pub(crate) struct Book {
-    since: [usize; 8],
-    bound: [usize; 8],
-    longest: usize,
-    promise: usize,
-    late: usize,
+// the next frame, counted from 0
+pub(crate) const FRAME: usize = 0;
+
+// units due and not loaded, loaded, delivered
+pub(crate) const DUE: usize = 1;
+
+pub(crate) const LOADED: usize = 4;
+
+pub(crate) const DELIVERED: usize = 7;
+
+// refusals for want of room, units that came back changed
+pub(crate) const NO_ROOM: usize = 10;
+
+pub(crate) const CHANGED: usize = 11;
+
+// packets of each queue and filler since the last line, and in the last frame
+pub(crate) const SUM: usize = 12;
+
+pub(crate) const LAST: usize = 16;
+
+// of the news pages: those that came late, the longest wait and its promise
+pub(crate) const LATE: usize = 20;
+
+pub(crate) const LONGEST: usize = 21;
+
+pub(crate) const PROMISE: usize = 22;
+
+// by the page's number modulo 8, since at most eight are unfinished: the frame before which it was loaded, and the frames promised
+pub(crate) const SINCE: usize = 24;
+
+pub(crate) const BOUND: usize = 32;
+
+pub(crate) const SLOTS: usize = 40;
+
+// The packets of a frame.
+pub(crate) fn count(book: &mut [usize], packets: Three, filler: usize) {
+    count_one(book, 0, packets.a);
+    count_one(book, 1, packets.b);
+    count_one(book, 2, packets.c);
+    count_one(book, 3, filler);
 }
 
-impl Book {
-    pub(crate) fn fresh() -> Book {
-        let since = [0usize; 8];
-        let bound = [0usize; 8];
-        Book {
-            since,
-            bound,
-            longest: 0,
-            promise: 0,
-            late: 0,
-        }
-    }
+fn count_one(book: &mut [usize], id: usize, n: usize) {
+    list::put(book, list::plus(LAST, id), n);
+    list::add(book, list::plus(SUM, id), n);
+}
 
-    // Page k is loaded before a frame.
-    pub(crate) fn noted(self, k: usize, frame: usize, bound: usize) -> Book {
-        let at = k % 8;
-        let mut b = self;
-        b.since[at] = frame;
-        b.bound[at] = bound;
-        b
-    }
+// The sums begin anew.
+pub(crate) fn clear_sums(book: &mut [usize]) {
+    list::put(book, SUM, 0);
+    list::put(book, SUM + 1, 0);
+    list::put(book, SUM + 2, 0);
+    list::put(book, SUM + 3, 0);
+}
 
-    // Page k is delivered by a frame: the frames from its loading on count, both among them. A share of 0 promises nothing.
-    pub(crate) fn closed(self, k: usize, frame: usize) -> Book {
-        let at = k % 8;
-        let since = self.since;
-        let bound = self.bound;
-        let wait = std::num::wrapping_sub_usize(std::num::wrapping_add_usize(frame, 1), since[at]);
-        text::phrase(
-            b"news page ",
-            std::num::wrapping_add_usize(k, 1),
-            b" delivered: waited ",
-        );
-        text::wait(wait, bound[at]);
-        let mut b = self;
-        if (0 < bound[at]) & (bound[at] < wait) {
-            b.late = std::num::wrapping_add_usize(b.late, 1);
-        }
-        if b.longest < wait {
-            b.longest = wait;
-            b.promise = bound[at];
-        }
-        b
-    }
+// Page k was loaded: so many packets wait now, its own among them, and with a share of s it is wholly sent within k/s frames, rounded up.
+pub(crate) fn open_page(plan: &[usize], book: &mut [usize], k: usize, waiting: usize) {
+    let frame = list::at(book, FRAME);
+    list::put(book, SINCE + k % 8, frame);
+    list::put(
+        book,
+        BOUND + k % 8,
+        list::over(waiting, list::at(plan, plan::SHARE)),
+    );
+}
 
-    pub(crate) fn tell(self, delivered: usize) {
-        if delivered == 0 {
-            text::say(b"news pages: none delivered\n");
-            return;
-        }
-        text::phrase(b"news pages: ", delivered, b" delivered, ");
-        text::phrase(b"", self.late, b" late, longest wait ");
-        text::wait(self.longest, self.promise);
+// A page waited so many frames, of those that it was promised: a share of 0 promises nothing.
+fn judge(book: &mut [usize], wait: usize, bound: usize) {
+    if (0 < bound) & (bound < wait) {
+        list::add(book, LATE, 1);
     }
+}
+
+fn note_longest(book: &mut [usize], wait: usize, bound: usize) {
+    if list::at(book, LONGEST) < wait {
+        list::put(book, LONGEST, wait);
+        list::put(book, PROMISE, bound);
+    }
+}
+
+// Page k is delivered: the frames from its loading on count, both among them.
+pub(crate) fn close_page(book: &mut [usize], k: usize) {
+    let bound = list::at(book, BOUND + k % 8);
+    let end = list::plus(list::at(book, FRAME), 1);
+    let wait = std::num::wrapping_sub_usize(end, list::at(book, SINCE + k % 8));
+    text::phrase(b"news page ", list::plus(k, 1), b" delivered: waited ");
+    text::wait(wait, bound);
+    judge(book, wait, bound);
+    note_longest(book, wait, bound);
 }

@@ -1,6 +1,7 @@
 // The Sunday in October with two two-o'clocks, replayed: three queues share a stream, the map files are loaded twice, and the news
 // pages come through within their promise. Nothing here decides what is sent: the sender and the receiver of the library do.
 mod book;
+mod list;
 mod plan;
 mod run;
 mod table;
@@ -22,13 +23,12 @@ fn main() {
     let mut bytes = [0u8; 4352];
     let mut store = [0u8; 12288];
     let mut buffer = [0u8; 16384];
+    let mut plan = plan::usual();
+    let mut book = [0usize; book::SLOTS];
     make(&mut bytes);
-    let asked = wish::arguments();
-    let v = asked.v;
-    let w = plan::of(v);
-    if asked.whole && wish::is_fit(w, &mut store, &bytes) {
-        table::head(w);
-        let r = run::play(w, &mut store, &mut buffer, &bytes);
-        table::end(r);
+    if wish::arguments(&mut plan) && wish::is_fit(&plan, &mut store, &bytes) {
+        table::head(&plan);
+        run::play(&plan, &mut book, &mut store, &mut buffer, &bytes);
+        table::end(&book);
     }
 }

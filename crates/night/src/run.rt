@@ -1,237 +1,230 @@
 // The night, frame by frame: what is due is loaded, the sender makes a frame, the receiver gets its packets.
-use crate::book::Book;
+use crate::book;
+use crate::list;
 use crate::plan;
-use crate::plan::Plan;
 use crate::table;
-use hand::Three;
 use receiver::Answer;
 use receiver::Receiver;
 use sender::Sender;
 
 const FRAME: usize = 8190;
 
-// How far the night has come: the next frame, counted from 0; of each queue the units due and not loaded, loaded, delivered; refusals
-// for want of room, units that came back changed; packets of each queue and filler since the last line and in the last frame.
-pub(crate) struct Run {
-    pub(crate) frame: usize,
-    pub(crate) due: [usize; 3],
-    pub(crate) loaded: [usize; 3],
-    pub(crate) delivered: [usize; 3],
-    pub(crate) no_room: usize,
-    pub(crate) changed: usize,
-    pub(crate) sum: [usize; 4],
-    pub(crate) last: [usize; 4],
-    pub(crate) sender: Sender,
-    pub(crate) receiver: Receiver,
-    pub(crate) book: Book,
-}
-
-// What a packet brought.
-struct Heard {
-    given: bool,
-    id: usize,
-    length: usize,
-}
-
-fn plus(x: usize, y: usize) -> usize {
-    std::num::wrapping_add_usize(x, y)
-}
-
-fn less(x: usize) -> usize {
-    if x == 0 { 0 } else { x - 1 }
-}
-
-fn begin() -> Run {
-    let none = [0usize; 3];
-    let nothing = [0usize; 4];
-    let sender = Sender::fresh();
-    let receiver = Receiver::fresh();
-    let book = Book::fresh();
-    Run {
-        frame: 0,
-        due: none,
-        loaded: none,
-        delivered: none,
-        no_room: 0,
-        changed: 0,
-        sum: nothing,
-        last: nothing,
-        sender,
-        receiver,
-        book,
-    }
-}
-
 // The packets that wait in a queue.
-pub(crate) fn waiting(w: Plan, s: Sender, id: usize) -> usize {
+fn waiting(s: Sender, id: usize, p: usize) -> usize {
     let f = s.front;
     let q = f.q[id % 3];
-    q.waiting((w.settings.p % 256) as u8)
+    q.waiting((p % 256) as u8)
 }
 
-// A unit of a queue was loaded: k packets wait now, its own among them, and with a share of s it is wholly sent within k/s frames,
-// rounded up.
-fn noted(w: Plan, r: Run, id: usize) -> Run {
-    let at = id % 3;
-    let mut next = r;
-    let k = next.loaded[at];
-    next.due[at] = less(next.due[at]);
-    next.loaded[at] = plus(k, 1);
+// A unit of a queue was loaded: it is no longer due.
+fn loaded(plan: &[usize], book: &mut [usize], s: Sender, id: usize) {
+    let k = list::next(book, list::plus(book::LOADED, id));
+    list::less(book, list::plus(book::DUE, id));
     if id == plan::NEWS {
-        let sender = r.sender;
-        let bound = plan::over(waiting(w, sender, id), w.settings.share.a);
-        let book = r.book;
-        let book = book.noted(k, r.frame, bound);
-        next.book = book;
+        let waiting = waiting(s, id, list::at(plan, plan::P));
+        book::open_page(plan, book, k, waiting);
     }
-    next
 }
 
 // The next unit of a queue. Where there is no room (15) nothing is changed, and it is tried again before the next frame.
-fn load(w: Plan, r: Run, id: usize, store: &mut [u8], bytes: &[u8]) -> Run {
-    let loaded = r.loaded;
-    let settings = w.settings;
-    let before = r.sender;
-    let done = before.load(
-        settings,
-        store,
-        id,
-        plan::unit(w, bytes, id, loaded[id % 3]),
-    );
-    let mut next = r;
-    if done.number != 0 {
-        next.no_room = plus(r.no_room, 1);
-        return next;
+fn load(
+    plan: &[usize],
+    book: &mut [usize],
+    s: Sender,
+    id: usize,
+    store: &mut [u8],
+    bytes: &[u8],
+) -> Sender {
+    let k = list::at(book, list::plus(book::LOADED, id));
+    let settings = plan::settings(plan);
+    let done = s.load(settings, store, id, plan::unit(plan, bytes, id, k));
+    let next = done.next;
+    if done.number == 0 {
+        loaded(plan, book, next, id);
+    } else {
+        list::add(book, book::NO_ROOM, 1);
     }
-    let sender = done.next;
-    next.sender = sender;
-    noted(w, next, id)
+    next
 }
 
-// The units of a queue that are due, until one finds no room. No more than eight are ever unfinished.
-fn load_all(w: Plan, r: Run, id: usize, store: &mut [u8], bytes: &[u8]) -> Run {
-    let mut next = r;
-    next.due[id % 3] = plus(next.due[id % 3], plan::due(w, id, r.frame));
-    let refused = next.no_room;
+// A unit that is due, unless one was refused before this frame: the refusals were so many.
+fn load_due(
+    plan: &[usize],
+    book: &mut [usize],
+    s: Sender,
+    id: usize,
+    refused: usize,
+    store: &mut [u8],
+    bytes: &[u8],
+) -> Sender {
+    if list::at(book, list::plus(book::DUE, id)) == 0 {
+        return s;
+    }
+    if list::at(book, book::NO_ROOM) != refused {
+        return s;
+    }
+    load(plan, book, s, id, store, bytes)
+}
+
+// The units of a queue that are due, until one finds no room: no more than eight are ever unfinished, so that the ninth finds none.
+fn load_all(
+    plan: &[usize],
+    book: &mut [usize],
+    s: Sender,
+    id: usize,
+    store: &mut [u8],
+    bytes: &[u8],
+) -> Sender {
+    let frame = list::at(book, book::FRAME);
+    list::add(book, list::plus(book::DUE, id), plan::due(plan, id, frame));
+    let refused = list::at(book, book::NO_ROOM);
+    let mut next = s;
     let mut left: u8 = 9;
-    while 0 < left && 0 < next.due[id % 3] && next.no_room == refused {
-        next = load(w, next, id, store, bytes);
+    while 0 < left {
+        next = load_due(plan, book, next, id, refused, store, bytes);
         left -= 1;
     }
     next
 }
 
-fn outcome(a: Answer) -> Heard {
-    match a {
-        Answer::Delivered { id, length } => Heard {
-            given: true,
-            id: (id % 4) as usize,
-            length,
-        },
-        _ => Heard {
-            given: false,
-            id: 0,
-            length: 0,
-        },
+// Unit k of a queue came out of the receiver: it is as it was loaded, or not.
+fn compare(plan: &[usize], book: &mut [usize], id: usize, k: usize, unit: &[u8], bytes: &[u8]) {
+    if !list::same(unit, plan::unit(plan, bytes, id, k)) {
+        list::add(book, book::CHANGED, 1);
     }
 }
 
-// A unit came out of the receiver.
-fn came(w: Plan, r: Run, h: Heard, buffer: &[u8], bytes: &[u8]) -> Run {
-    let at = h.id % 3;
-    let mut next = r;
-    let k = next.delivered[at];
-    next.delivered[at] = plus(k, 1);
-    let unit = plan::unit(w, bytes, at, k);
-    if !plan::same(plan::part(buffer, at * 4096, h.length), unit) {
-        next.changed = plus(r.changed, 1);
+// And a news page is shown, with its wait.
+fn show_page(plan: &[usize], book: &mut [usize], id: usize, k: usize) {
+    if id == plan::NEWS {
+        table::stamp(plan, list::at(book, book::FRAME));
+        book::close_page(book, k);
     }
-    if at == plan::NEWS {
-        table::stamp(w, r.frame);
-        let book = r.book;
-        let book = book.closed(k, r.frame);
-        next.book = book;
+}
+
+// What a packet brought.
+fn take(plan: &[usize], book: &mut [usize], answer: Answer, buffer: &[u8], bytes: &[u8]) {
+    if let Answer::Delivered { id, length } = answer {
+        let at = (id % 4) as usize;
+        let k = list::next(book, list::plus(book::DELIVERED, at));
+        compare(
+            plan,
+            book,
+            at,
+            k,
+            list::part(buffer, at * 4096, length),
+            bytes,
+        );
+        show_page(plan, book, at, k);
     }
-    next
 }
 
 // One packet to the receiver.
-fn hear(w: Plan, r: Run, packet: &[u8], buffer: &mut [u8], bytes: &[u8]) -> Run {
-    let before = r.receiver;
-    let told = before.step(w.settings.p, buffer, packet);
-    let receiver = told.next;
-    let a = told.answer;
-    let h = outcome(a);
-    let mut next = r;
-    next.receiver = receiver;
-    if h.given {
-        return came(w, next, h, buffer, bytes);
-    }
-    next
+fn hear(
+    plan: &[usize],
+    book: &mut [usize],
+    r: Receiver,
+    packet: &[u8],
+    buffer: &mut [u8],
+    bytes: &[u8],
+) -> Receiver {
+    let told = r.step(list::at(plan, plan::P), buffer, packet);
+    let answer = told.answer;
+    take(plan, book, answer, buffer, bytes);
+    told.next
 }
 
 // The packets of a frame, in order.
-fn hear_all(w: Plan, r: Run, frame: &[u8], buffer: &mut [u8], bytes: &[u8]) -> Run {
-    let size = plus(w.settings.p, 3);
+fn hear_all(
+    plan: &[usize],
+    book: &mut [usize],
+    r: Receiver,
+    frame: &[u8],
+    buffer: &mut [u8],
+    bytes: &[u8],
+) -> Receiver {
+    let size = list::plus(list::at(plan, plan::P), 3);
     let mut next = r;
     let mut at: usize = 0;
-    let mut left = w.settings.n;
+    let mut left = list::at(plan, plan::N);
     while 0 < left {
-        next = hear(w, next, plan::part(frame, at, size), buffer, bytes);
-        at = plus(at, size);
+        next = hear(plan, book, next, list::part(frame, at, size), buffer, bytes);
+        at = list::plus(at, size);
         left -= 1;
     }
     next
 }
 
-fn counted(r: Run, packets: Three, filler: usize) -> Run {
-    let mut next = r;
-    let s = r.sum;
-    let last = [packets.a, packets.b, packets.c, filler];
-    let sum = [
-        plus(s[0], packets.a),
-        plus(s[1], packets.b),
-        plus(s[2], packets.c),
-        plus(s[3], filler),
-    ];
-    next.last = last;
-    next.sum = sum;
-    next
+// What is due in each queue.
+fn load_queues(
+    plan: &[usize],
+    book: &mut [usize],
+    s: Sender,
+    store: &mut [u8],
+    bytes: &[u8],
+) -> Sender {
+    let s = load_all(plan, book, s, plan::NEWS, store, bytes);
+    let s = load_all(plan, book, s, plan::MAPS, store, bytes);
+    load_all(plan, book, s, plan::STATIONS, store, bytes)
 }
 
-fn frame(w: Plan, r: Run, store: &mut [u8], buffer: &mut [u8], bytes: &[u8]) -> Run {
+fn frame(
+    plan: &[usize],
+    book: &mut [usize],
+    s: Sender,
+    store: &mut [u8],
+    out: &mut [u8],
+) -> Sender {
+    let done = s.frame(plan::settings(plan), store, out);
+    book::count(book, done.packets, done.filler);
+    done.next
+}
+
+// What is due is loaded, and the frame written.
+fn send(
+    plan: &[usize],
+    book: &mut [usize],
+    s: Sender,
+    store: &mut [u8],
+    bytes: &[u8],
+    out: &mut [u8],
+) -> Sender {
+    table::start(plan, list::at(book, book::FRAME));
+    let s = load_queues(plan, book, s, store, bytes);
+    frame(plan, book, s, store, out)
+}
+
+// A line of the table, where one is due after a frame.
+fn show(plan: &[usize], book: &mut [usize], s: Sender) {
+    let p = list::at(plan, plan::P);
+    if table::is_due(plan, list::at(book, book::FRAME)) {
+        table::line(
+            plan,
+            book,
+            waiting(s, 0, p),
+            waiting(s, 1, p),
+            waiting(s, 2, p),
+        );
+        book::clear_sums(book);
+    }
+}
+
+pub(crate) fn play(
+    plan: &[usize],
+    book: &mut [usize],
+    store: &mut [u8],
+    buffer: &mut [u8],
+    bytes: &[u8],
+) {
     let mut out = [0u8; FRAME];
-    let settings = w.settings;
-    let before = r.sender;
-    let done = before.frame(settings, store, &mut out);
-    let sender = done.next;
-    let packets = done.packets;
-    let mut next = counted(r, packets, done.filler);
-    next.sender = sender;
-    hear_all(w, next, &out, buffer, bytes)
-}
-
-fn load_queues(w: Plan, r: Run, store: &mut [u8], bytes: &[u8]) -> Run {
-    let r = load_all(w, r, plan::NEWS, store, bytes);
-    let r = load_all(w, r, plan::MAPS, store, bytes);
-    load_all(w, r, plan::STATIONS, store, bytes)
-}
-
-fn turn(w: Plan, r: Run, store: &mut [u8], buffer: &mut [u8], bytes: &[u8]) -> Run {
-    table::start(w, r.frame);
-    let r = load_queues(w, r, store, bytes);
-    let r = frame(w, r, store, buffer, bytes);
-    let mut next = table::show(w, r);
-    next.frame = plus(r.frame, 1);
-    next
-}
-
-pub(crate) fn play(w: Plan, store: &mut [u8], buffer: &mut [u8], bytes: &[u8]) -> Run {
-    let mut r = begin();
-    let mut left = w.frames;
+    let mut s = Sender::fresh();
+    let mut r = Receiver::fresh();
+    let mut left = list::at(plan, plan::FRAMES);
     while 0 < left {
-        r = turn(w, r, store, buffer, bytes);
+        s = send(plan, book, s, store, bytes, &mut out);
+        r = hear_all(plan, book, r, &out, buffer, bytes);
+        show(plan, book, s);
+        list::add(book, book::FRAME, 1);
         left -= 1;
     }
-    r
 }

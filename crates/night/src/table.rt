@@ -1,8 +1,7 @@
 // The table that is printed: a line for some frames together, and the lines at the end.
+use crate::book;
+use crate::list;
 use crate::plan;
-use crate::plan::Plan;
-use crate::run;
-use crate::run::Run;
 use crate::text;
 
 // The lines of a night, about.
@@ -12,23 +11,20 @@ const LINES: usize = 20;
 const BAR: usize = 18;
 
 // Minutes of an hour by the wall clock.
-fn minute(w: Plan, frame: usize) -> usize {
-    let h = plan::hour(w);
-    if h == 0 {
+fn minute(frame: usize, hour: usize) -> usize {
+    if hour == 0 {
         return 0;
     }
-    frame % h % 1000000 * 60 / h
+    frame % hour % 1000000 * 60 / hour
 }
 
 // The number of a frame, from 1, and the wall clock. The hour from two to three comes twice: A in summer time, B in winter time.
-pub(crate) fn stamp(w: Plan, frame: usize) {
-    let h = plan::hour(w);
-    let m = minute(w, frame);
-    text::column(std::num::wrapping_add_usize(frame, 1), 5);
-    if h == 0 {
-        return;
-    }
-    match frame / h {
+pub(crate) fn stamp(plan: &[usize], frame: usize) {
+    let h = plan::hour(plan);
+    let m = minute(frame, h);
+    text::column(list::plus(frame, 1), 5);
+    let hours = if h == 0 { 0 } else { frame / h };
+    match hours {
         0 => text::say(b"   1:"),
         1 => text::say(b"  2A:"),
         2 => text::say(b"  2B:"),
@@ -42,80 +38,67 @@ pub(crate) fn stamp(w: Plan, frame: usize) {
 }
 
 // The job's start, where it is two o'clock.
-pub(crate) fn start(w: Plan, frame: usize) {
-    if plan::is_two(w, frame) {
-        stamp(w, frame);
-        if frame == plan::hour(w) {
-            text::phrase(b"two o'clock: the job starts, ", w.files, b" map files\n");
-        } else {
-            text::phrase(
-                b"two o'clock again: the job starts again, the same ",
-                w.files,
-                b" map files\n",
-            );
-        }
+pub(crate) fn start(plan: &[usize], frame: usize) {
+    if !plan::is_two(plan, frame) {
+        return;
     }
-}
-
-fn four(x: [usize; 4]) {
-    text::column(x[0], 6);
-    text::column(x[1], 6);
-    text::column(x[2], 6);
-    text::column(x[3], 6);
+    stamp(plan, frame);
+    if frame == plan::hour(plan) {
+        text::say(b"two o'clock: the job starts, ");
+    } else {
+        text::say(b"two o'clock again: the job starts again, the same ");
+    }
+    text::phrase(b"", list::at(plan, plan::FILES), b" map files\n");
 }
 
 // The packets of a frame that a character of the bar stands for, so that a line fits on a screen.
-fn grain(w: Plan) -> usize {
-    plan::over(w.settings.n, BAR)
+fn grain(plan: &[usize]) -> usize {
+    list::over(list::at(plan, plan::N), BAR)
 }
 
-fn bar(w: Plan, x: [usize; 4]) {
-    let g = grain(w);
+// The last frame: the packets of each queue and filler, each as so many characters.
+fn bar(plan: &[usize], book: &[usize]) {
+    let g = grain(plan);
     text::say(b"   ");
-    text::repeat(b"0", plan::over(x[0], g));
-    text::repeat(b"1", plan::over(x[1], g));
-    text::repeat(b"2", plan::over(x[2], g));
-    text::repeat(b".", plan::over(x[3], g));
+    text::repeat(b"0", list::over(list::at(book, book::LAST), g));
+    text::repeat(b"1", list::over(list::at(book, book::LAST + 1), g));
+    text::repeat(b"2", list::over(list::at(book, book::LAST + 2), g));
+    text::repeat(b".", list::over(list::at(book, book::LAST + 3), g));
     text::say(b"\n");
 }
 
-fn line(w: Plan, r: Run) {
-    stamp(w, r.frame);
-    let sum = r.sum;
-    four(sum);
+// A line is due after this frame.
+pub(crate) fn is_due(plan: &[usize], frame: usize) -> bool {
+    let step = list::over(list::at(plan, plan::FRAMES), LINES);
+    list::remainder(list::plus(frame, 1), step) == 0
+}
+
+// The line, with the packets that wait in each queue.
+pub(crate) fn line(plan: &[usize], book: &[usize], a: usize, b: usize, c: usize) {
+    stamp(plan, list::at(book, book::FRAME));
+    text::column(list::at(book, book::SUM), 6);
+    text::column(list::at(book, book::SUM + 1), 6);
+    text::column(list::at(book, book::SUM + 2), 6);
+    text::column(list::at(book, book::SUM + 3), 6);
     text::say(b"  ");
-    let s = r.sender;
-    text::column(run::waiting(w, s, 0), 5);
-    text::column(run::waiting(w, s, 1), 5);
-    text::column(run::waiting(w, s, 2), 5);
-    let last = r.last;
-    bar(w, last);
+    text::column(a, 5);
+    text::column(b, 5);
+    text::column(c, 5);
+    bar(plan, book);
 }
 
-// After a frame: a line where one is due, and the sums begin anew.
-pub(crate) fn show(w: Plan, r: Run) -> Run {
-    let step = plan::over(w.frames, LINES);
-    let mut next = r;
-    if plan::is_round(std::num::wrapping_add_usize(r.frame, 1), step) {
-        line(w, r);
-        let nothing = [0usize; 4];
-        next.sum = nothing;
-    }
-    next
-}
-
-pub(crate) fn head(w: Plan) {
+pub(crate) fn head(plan: &[usize]) {
     text::say(b"The Sunday with two two-o'clocks. Three queues share one stream of packets:\n");
     text::say(b"0 news pages, 1 map files, 2 station data; a dot is filler. The job that loads\n");
     text::phrase(
         b"the ",
-        w.files,
+        list::at(plan, plan::FILES),
         b" map files starts at two o'clock, and so it starts twice.\n",
     );
-    if 1 < grain(w) {
+    if 1 < grain(plan) {
         text::phrase(
             b"A character of the bar stands for up to ",
-            grain(w),
+            grain(plan),
             b" packets.\n",
         );
     }
@@ -123,19 +106,35 @@ pub(crate) fn head(w: Plan) {
     text::say(b"frame  time        0     1     2  fill      0    1    2   packet by packet\n");
 }
 
-pub(crate) fn end(r: Run) {
-    let loaded = r.loaded;
-    let delivered = r.delivered;
-    let due = r.due;
-    let book = r.book;
-    text::phrase(b"\nmap files: ", delivered[1], b" delivered, ");
-    text::phrase(b"", loaded[1], b" loaded, ");
-    text::phrase(b"", due[1], b" still to load\n");
+pub(crate) fn end(book: &[usize]) {
+    text::phrase(
+        b"\nmap files: ",
+        list::at(book, book::DELIVERED + 1),
+        b" delivered, ",
+    );
+    text::phrase(b"", list::at(book, book::LOADED + 1), b" loaded, ");
+    text::phrase(b"", list::at(book, book::DUE + 1), b" still to load\n");
     text::phrase(
         b"units refused for want of room (15) and offered again: ",
-        r.no_room,
+        list::at(book, book::NO_ROOM),
         b"\n",
     );
-    text::phrase(b"units that came back changed: ", r.changed, b"\n");
-    book.tell(delivered[0]);
+    text::phrase(
+        b"units that came back changed: ",
+        list::at(book, book::CHANGED),
+        b"\n",
+    );
+    pages(book);
+}
+
+// The line of the news pages.
+fn pages(book: &[usize]) {
+    let delivered = list::at(book, book::DELIVERED);
+    if delivered == 0 {
+        text::say(b"news pages: none delivered\n");
+        return;
+    }
+    text::phrase(b"news pages: ", delivered, b" delivered, ");
+    text::phrase(b"", list::at(book, book::LATE), b" late, longest wait ");
+    text::wait(list::at(book, book::LONGEST), list::at(book, book::PROMISE));
 }

@@ -1,17 +1,11 @@
 // The arguments, each NAME=NUMBER: what is to be other than in the usual night. A wrong one gets a sentence, and nothing is run.
+use crate::list;
 use crate::plan;
-use crate::plan::Plan;
 use crate::text;
 use sender::Sender;
 
 // No number: numbers end below it.
 const NONE: usize = 1000000;
-
-// What is asked for, in the order of plan::of; whole is false where an argument was wrong.
-pub(crate) struct Asked {
-    pub(crate) whole: bool,
-    pub(crate) v: [usize; plan::NUMBERS],
-}
 
 // The number that a digit makes of the one before it.
 fn grown(n: usize, x: u8) -> usize {
@@ -51,16 +45,17 @@ fn sign(s: &[u8]) -> usize {
 }
 
 // The word stands in the list at a position, and behind it an equals sign, which no name has.
-fn is_at(list: &[u8], at: usize, word: &[u8]) -> bool {
-    let end = std::num::wrapping_add_usize(at, word.len());
-    plan::same(plan::part(list, at, word.len()), word) & plan::same(plan::part(list, end, 1), b"=")
+fn is_at(names: &[u8], at: usize, word: &[u8]) -> bool {
+    let end = list::plus(at, word.len());
+    list::same(list::part(names, at, word.len()), word)
+        & list::same(list::part(names, end, 1), b"=")
 }
 
 // The place of a name in the list of names, nine bytes each, or one that is past them.
-fn slot(list: &[u8], name: &[u8]) -> usize {
+fn slot(names: &[u8], name: &[u8]) -> usize {
     let mut k: usize = 0;
     while k < plan::NUMBERS {
-        if is_at(list, k * 9, name) {
+        if is_at(names, k * 9, name) {
             return k;
         }
         k += 1;
@@ -89,67 +84,67 @@ fn usage() {
     text::say(b"  frames     frames of the night, a quarter of them an hour      80\n");
 }
 
-fn wrong(a: Asked, s: &[u8], why: &[u8]) -> Asked {
+fn wrong(s: &[u8], why: &[u8]) -> bool {
     text::say(b"night: `");
     text::say(s);
     text::say(why);
     usage();
-    let mut r = a;
-    r.whole = false;
-    r
+    false
 }
 
-// One argument.
-fn taken(a: Asked, s: &[u8]) -> Asked {
+// One argument; false where it is wrong.
+fn take(plan: &mut [usize], s: &[u8]) -> bool {
     let k = sign(s);
-    let x = number_in(plan::behind(s, std::num::wrapping_add_usize(k, 1)));
+    let x = number_in(list::behind(s, list::plus(k, 1)));
     if x == NONE {
         return wrong(
-            a,
             s,
             b"` is not NAME=NUMBER with a whole number below 1000000.\n",
         );
     }
-    let at = place(plan::part(s, 0, k));
+    let at = place(list::part(s, 0, k));
     if plan::NUMBERS <= at {
-        return wrong(a, s, b"` begins with a name that is not in the list.\n");
+        return wrong(s, b"` begins with a name that is not in the list.\n");
     }
-    let mut r = a;
-    r.v[at] = x;
-    r
+    list::put(plan, at, x);
+    true
 }
 
-fn read(a: Asked, i: usize) -> Asked {
+fn read(plan: &mut [usize], i: usize) -> bool {
     let mut word = [0u8; 64];
     let n = os::arg(i, &mut word);
-    taken(a, &word[..n])
+    take(plan, &word[..n])
 }
 
-pub(crate) fn arguments() -> Asked {
-    let v = plan::usual();
-    let mut a = Asked { whole: true, v };
+// All arguments, up to a wrong one; false where there is one.
+pub(crate) fn arguments(plan: &mut [usize]) -> bool {
     let n = os::arg_count();
     let mut i: usize = 1;
-    while i < n && a.whole {
-        a = read(a, i);
+    let mut whole = true;
+    while i < n && whole {
+        whole = read(plan, i);
         i += 1;
     }
-    a
+    whole
 }
 
 // The number that the library gives a unit of a queue, tried on a fresh sender.
-fn tried(w: Plan, id: usize, store: &mut [u8], bytes: &[u8]) -> u32 {
+fn tried(plan: &[usize], id: usize, store: &mut [u8], bytes: &[u8]) -> u32 {
     let s = Sender::fresh();
-    let settings = w.settings;
-    let done = s.load(settings, store, id, plan::unit(w, bytes, id, 0));
+    let done = s.load(
+        plan::settings(plan),
+        store,
+        id,
+        plan::unit(plan, bytes, id, 0),
+    );
     done.number
 }
 
 // The first number that the library gives the settings and the units, 0 where it takes all.
-fn number(w: Plan, store: &mut [u8], bytes: &[u8]) -> u32 {
-    let a = tried(w, plan::NEWS, store, bytes);
-    let b = tried(w, plan::MAPS, store, bytes);
-    let c = tried(w, plan::STATIONS, store, bytes);
+fn number(plan: &[usize], store: &mut [u8], bytes: &[u8]) -> u32 {
+    let a = tried(plan, plan::NEWS, store, bytes);
+    let b = tried(plan, plan::MAPS, store, bytes);
+    let c = tried(plan, plan::STATIONS, store, bytes);
     if a != 0 {
         return a;
     }
@@ -157,8 +152,8 @@ fn number(w: Plan, store: &mut [u8], bytes: &[u8]) -> u32 {
 }
 
 // The night can be run; where it cannot, a sentence says why.
-pub(crate) fn is_fit(w: Plan, store: &mut [u8], bytes: &[u8]) -> bool {
-    let number = number(w, store, bytes);
+pub(crate) fn is_fit(plan: &[usize], store: &mut [u8], bytes: &[u8]) -> bool {
+    let number = number(plan, store, bytes);
     if number == 13 {
         text::say(
             b"night: the settings are refused (13). Their limits: p from 1 to 255; n from 1,\n",

@@ -1,18 +1,25 @@
+-- The walk is the borrow checker's; lengths stay, and a number falls. Assumes nothing.
 use mathlib.Core.Path.{_≡_}
-use Prim.Native.Nat.{_-_}
+use Prim.Native.Nat.{_-_, _≤_}
 use lib.ListN.{length}
 use borrow.Author.Needs.{needs}
 use Rattle.night.proofs.run.hear_all.Statement.{statement}
 use Rattle.night.proofs.run.hear_all.Tie as tie
 
 abbrev Inv-loop : tie.InvT-loop
-Inv-loop w frame buffer₀ bytes size next₀ at₀ left₀ buffer next at left = (length buffer ≡ length buffer₀)
+Inv-loop plan book₀ frame buffer₀ bytes size next₀ at₀ left₀ book buffer next at left = (length book ≡ length book₀) × (length buffer ≡ length buffer₀)
 
 abbrev μ-loop : tie.MeasureT-loop
-μ-loop w frame buffer₀ bytes size next₀ at₀ left₀ buffer next at left = left
+μ-loop plan book₀ frame buffer₀ bytes size next₀ at₀ left₀ book buffer next at left = left
+
+at-requires : tie.Need-at-requires Inv-loop μ-loop
+at-requires c κs = search needs
 
 plus-requires : tie.Need-plus-requires Inv-loop μ-loop
 plus-requires c κs = search needs
+
+at-requires-2 : tie.Need-at-requires-2 Inv-loop μ-loop
+at-requires-2 c κs = search needs
 
 loop-holds : tie.Need-loop-holds Inv-loop μ-loop
 loop-holds c = search needs
@@ -38,6 +45,9 @@ loop-again c = search needs
 same-length : tie.Need-same-length Inv-loop μ-loop
 same-length c = search needs
 
+same-length-2 : tie.Need-same-length-2 Inv-loop μ-loop
+same-length-2 c = search needs
+
 returns : tie.Need-returns Inv-loop μ-loop
 returns c = search needs
 
@@ -47,7 +57,9 @@ hear-all-spec =
     (tie.spec
     Inv-loop
     μ-loop
+    at-requires
     plus-requires
+    at-requires-2
     loop-holds
     part-requires
     hear-requires
@@ -56,4 +68,5 @@ hear-all-spec =
     loop-less
     loop-again
     same-length
+    same-length-2
     returns)

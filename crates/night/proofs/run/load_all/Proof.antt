@@ -1,45 +1,37 @@
+-- The walk is the borrow checker's; lengths stay, and a number falls. Assumes nothing.
 use mathlib.Core.Path.{_≡_}
-use Prim.Native.Nat.{_-_}
+use Prim.Native.Nat.{_-_, _≤_}
 use lib.ListN.{length}
 use borrow.Author.Needs.{needs}
 use Rattle.night.proofs.run.load_all.Statement.{statement}
 use Rattle.night.proofs.run.load_all.Tie as tie
 
 abbrev Inv-loop : tie.InvT-loop
-Inv-loop w id store₀ bytes next₀ refused left₀ store next left = (length store ≡ length store₀)
+Inv-loop plan book₀ id store₀ bytes frame refused next₀ left₀ book store next left = (length book ≡ length book₀) × (length store ≡ length store₀)
 
 abbrev μ-loop : tie.MeasureT-loop
-μ-loop w id store₀ bytes next₀ refused left₀ store next left = left
+μ-loop plan book₀ id store₀ bytes frame refused next₀ left₀ book store next left = left
 
-mul-plus : tie.Need-mul-plus Inv-loop μ-loop
-mul-plus c = search needs
-
-element-copy-out-plus : tie.Need-element-copy-out-plus Inv-loop μ-loop
-element-copy-out-plus c = search needs
-
-due-requires : tie.Need-due-requires Inv-loop μ-loop
-due-requires c κs = search needs
+at-requires : tie.Need-at-requires Inv-loop μ-loop
+at-requires c κs = search needs
 
 plus-requires : tie.Need-plus-requires Inv-loop μ-loop
 plus-requires c κs = search needs
 
-mul-next : tie.Need-mul-next Inv-loop μ-loop
-mul-next c = search needs
+due-requires : tie.Need-due-requires Inv-loop μ-loop
+due-requires c κs = search needs
 
-element-write-next : tie.Need-element-write-next Inv-loop μ-loop
-element-write-next c = search needs
+add-requires : tie.Need-add-requires Inv-loop μ-loop
+add-requires c κs = search needs
+
+at-requires-2 : tie.Need-at-requires-2 Inv-loop μ-loop
+at-requires-2 c κs = search needs
 
 loop-holds : tie.Need-loop-holds Inv-loop μ-loop
 loop-holds c = search needs
 
-mul-if1 : tie.Need-mul-if1 Inv-loop μ-loop
-mul-if1 c = search needs
-
-element-copy-out-if1 : tie.Need-element-copy-out-if1 Inv-loop μ-loop
-element-copy-out-if1 c = search needs
-
-load-requires : tie.Need-load-requires Inv-loop μ-loop
-load-requires c κs = search needs
+load-due-requires : tie.Need-load-due-requires Inv-loop μ-loop
+load-due-requires c κs = search needs
 
 sub-left : tie.Need-sub-left Inv-loop μ-loop
 sub-left c = search needs
@@ -53,20 +45,11 @@ loop-again c = search needs
 same-length : tie.Need-same-length Inv-loop μ-loop
 same-length c = search needs
 
-returns : tie.Need-returns Inv-loop μ-loop
-returns c = search needs
-
 same-length-2 : tie.Need-same-length-2 Inv-loop μ-loop
 same-length-2 c = search needs
 
-returns-2 : tie.Need-returns-2 Inv-loop μ-loop
-returns-2 c = search needs
-
-same-length-3 : tie.Need-same-length-3 Inv-loop μ-loop
-same-length-3 c = search needs
-
-returns-3 : tie.Need-returns-3 Inv-loop μ-loop
-returns-3 c = search needs
+returns : tie.Need-returns Inv-loop μ-loop
+returns c = search needs
 
 pub load-all-spec : {M : Type 1} → statement M
 load-all-spec =
@@ -74,22 +57,16 @@ load-all-spec =
     (tie.spec
     Inv-loop
     μ-loop
-    mul-plus
-    element-copy-out-plus
-    due-requires
+    at-requires
     plus-requires
-    mul-next
-    element-write-next
+    due-requires
+    add-requires
+    at-requires-2
     loop-holds
-    mul-if1
-    element-copy-out-if1
-    load-requires
+    load-due-requires
     sub-left
     loop-less
     loop-again
     same-length
-    returns
     same-length-2
-    returns-2
-    same-length-3
-    returns-3)
+    returns)

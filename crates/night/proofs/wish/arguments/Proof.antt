@@ -1,16 +1,16 @@
-use Prim.Native.Nat.{_-_}
+-- The walk is the borrow checker's; lengths stay, and a number falls. Assumes nothing.
+use mathlib.Core.Path.{_≡_}
+use Prim.Native.Nat.{_-_, _≤_}
+use lib.ListN.{length}
 use borrow.Author.Needs.{needs}
 use Rattle.night.proofs.wish.arguments.Statement.{statement}
 use Rattle.night.proofs.wish.arguments.Tie as tie
 
 abbrev Inv-loop : tie.InvT-loop
-Inv-loop a₀ n i₀ a i = Unit {0}
+Inv-loop plan₀ n i₀ whole₀ plan i whole = (length plan ≡ length plan₀)
 
 abbrev μ-loop : tie.MeasureT-loop
-μ-loop a₀ n i₀ a i = n - i
-
-usual-requires : tie.Need-usual-requires Inv-loop μ-loop
-usual-requires c κs = search needs
+μ-loop plan₀ n i₀ whole₀ plan i whole = n - i
 
 arg-count-requires : tie.Need-arg-count-requires Inv-loop μ-loop
 arg-count-requires c κs = search needs
@@ -30,8 +30,14 @@ loop-less c = search needs
 loop-again : tie.Need-loop-again Inv-loop μ-loop
 loop-again c = search needs
 
+same-length : tie.Need-same-length Inv-loop μ-loop
+same-length c = search needs
+
 returns : tie.Need-returns Inv-loop μ-loop
 returns c = search needs
+
+same-length-2 : tie.Need-same-length-2 Inv-loop μ-loop
+same-length-2 c = search needs
 
 returns-2 : tie.Need-returns-2 Inv-loop μ-loop
 returns-2 c = search needs
@@ -42,12 +48,13 @@ arguments-spec =
     (tie.spec
     Inv-loop
     μ-loop
-    usual-requires
     arg-count-requires
     loop-holds
     read-requires
     add-i
     loop-less
     loop-again
+    same-length
     returns
+    same-length-2
     returns-2)

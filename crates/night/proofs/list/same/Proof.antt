@@ -2,8 +2,8 @@ use mathlib.Core.Path.{_≡_}
 use Prim.Native.Nat.{_-_}
 use lib.ListN.{length}
 use borrow.Author.Needs.{needs}
-use Rattle.night.proofs.plan.same.Statement.{statement}
-use Rattle.night.proofs.plan.same.Tie as tie
+use Rattle.night.proofs.list.same.Statement.{statement}
+use Rattle.night.proofs.list.same.Tie as tie
 
 abbrev Inv-loop : tie.InvT-loop
 Inv-loop a b i₀ i = (length a ≡ length b)
