@@ -1,5 +1,5 @@
-# promises.awk: the reading behind promises.sh. It is handed docs/PROMISES.md, the files of specs/, the files Settled.antt and the sources, in
-# this order. Bytes, not characters, are looked at, so that every awk reads the same.
+# promises.awk: the reading behind promises.sh. It is handed the names of all edits on standard input, then docs/PROMISES.md, the files of specs/,
+# the files Settled.antt and the sources, in this order. Bytes, not characters, are looked at, so that every awk reads the same.
 
 function crate_of(path) {
     sub(/^crates\//, "", path)
@@ -24,36 +24,66 @@ function plain(call) {
     return call
 }
 
-# ---- docs/PROMISES.md: row[crate call], theorems[crate call], home[crate call], excused[crate call]
-function read_row(    n, cell, crate, word, list, where, at) {
+# ---- the edits: edit[path], and named[path] once a row has it
+FILENAME == "-" || FILENAME == "" || FILENAME == "/dev/stdin" {
+    edit[$0] = 1
+    next
+}
+
+# name_edits CRATE CELL SURE: those that a cell has between backquotes; where it has nothing else, each must be there
+function name_edits(crate, cell, sure,    word, path) {
+    REST = cell
+    while ((word = quoted(REST)) != "") {
+        path = "crates/" crate "/" (word ~ /^wrong\// ? word : "must-fail/" word) ".edit"
+        if (path in edit) named[path] = 1
+        else if (sure) {
+            print "docs/PROMISES.md:" FNR ": there is no " path
+            failed++
+        }
+    }
+}
+
+# ---- docs/PROMISES.md: row[crate call], theorems[crate call], home[crate call]
+function read_call(    n, cell, crate, word, list, where, at) {
     n = split($0, cell, "|")
     crate = cell[2]
     gsub(/[ `]/, "", crate)
-    if (crate == "crate" || crate ~ /^-/) return
+    if (n < 8 || crate == "crate" || crate ~ /^-/) return
     list = ""
+    REST = cell[6]
+    while ((word = quoted(REST)) != "") list = list " " word
     where = crate
-    if (without && n >= 6) {
-        if (cell[5] !~ /[a-z]/) return
-    } else if (!without && n >= 8) {
-        REST = cell[6]
-        while ((word = quoted(REST)) != "") list = list " " word
-        if (match(cell[6], /\(crates\/[a-z_0-9]+\)/)) where = substr(cell[6], RSTART + 8, RLENGTH - 9)
-    } else return
+    if (match(cell[6], /\(crates\/[a-z_0-9]+\)/)) where = substr(cell[6], RSTART + 8, RLENGTH - 9)
+    name_edits(crate, cell[7], 1)
     REST = cell[3]
     while ((word = quoted(REST)) != "") {
         at = crate " " plain(word)
-        if (without) excused[at] = 1
-        else {
-            row[at] = 1
-            theorems[at] = theorems[at] list
-            home[at] = where
+        row[at] = 1
+        theorems[at] = theorems[at] list
+        home[at] = where
+    }
+}
+
+# and of those without a full promise: excused[crate call], bare[crate call] where nothing at all is promised; 'all' is each call of the crates
+function read_ground(    n, i, k, cell, crate, word) {
+    n = split($0, cell, "|")
+    if (n < 6 || cell[5] !~ /[a-z]/) return
+    k = split(cell[2], crate, ",")
+    for (i = 1; i <= k; i++) {
+        gsub(/[ `]/, "", crate[i])
+        name_edits(crate[i], cell[4], 0)
+        REST = cell[3] ~ /^ *all *$/ ? "`*`" : cell[3]
+        while ((word = quoted(REST)) != "") {
+            excused[crate[i] " " plain(word)] = 1
+            if (cell[4] ~ /safe and ending, no more/) bare[crate[i] " " plain(word)] = 1
         }
     }
 }
 
 FILENAME ~ /PROMISES\.md$/ {
     if (/^## /) without = /^## Calls without/
-    if (/^\|/) read_row()
+    if (/^\|/ && without) read_ground()
+    else if (/^\|/) read_call()
     next
 }
 
@@ -175,7 +205,7 @@ function has_theorem(at,    n, i, k, m, list, need, all, s) {
     return 0
 }
 
-function judge(    name, params, n, i, word, at, lent, places) {
+function judge(    name, params, n, i, word, at, all, lent, places) {
     faults = 0
     call = head
     sub(/^ *pub (extern "C" )?fn /, "", call)
@@ -196,7 +226,10 @@ function judge(    name, params, n, i, word, at, lent, places) {
         given[lent] = 1
         if (word[i] ~ /&(\047[a-z]+ )?mut /) place_of[++places] = lent
     }
-    if (clauses == 0) fault("has no `ensures`")
+    all = crate_of(file) " *"
+    if (all in excused) excused[at] = 1
+    if (all in bare) bare[at] = 1
+    if (clauses == 0 && !(at in bare)) fault("has no `ensures`")
     if (bound) fault("has a `requires`")
     if (!(at in row) && !(at in excused)) fault("is not in docs/PROMISES.md")
     if (clauses > 0 && !(at in excused)) {
@@ -211,6 +244,11 @@ function judge(    name, params, n, i, word, at, lent, places) {
 }
 
 END {
+    for (path in edit) {
+        if (path in named) continue
+        print path ": no row of docs/PROMISES.md names it"
+        failed++
+    }
     print passed + 0 " passed, " failed + 0 " failed"
     exit(failed > 0 || passed == 0)
 }
