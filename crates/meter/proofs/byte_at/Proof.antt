@@ -1,3 +1,4 @@
+-- `meter::byte_at` meets its contract. Assumes nothing.
 use Rattle.meter.proofs.Ways.{getD-out}
 use borrow.Author.Needs.{needs}
 use Rattle.meter.proofs.byte_at.Statement.{statement}

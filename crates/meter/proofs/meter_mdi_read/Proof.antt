@@ -1,3 +1,4 @@
+-- `meter::meter_mdi_read` meets its contract. Assumes nothing.
 use Rattle.meter.proofs.Ways.{seen-is}
 use borrow.Author.Needs.{needs}
 use Rattle.meter.proofs.meter_mdi_read.Statement.{statement}

@@ -1,3 +1,4 @@
+-- `meter::meter_mdi_write` meets its contract. Assumes nothing.
 use Rattle.meter.proofs.Ways.{wrote-is, out-is}
 use borrow.Author.Needs.{needs}
 use Rattle.meter.proofs.meter_mdi_write.Statement.{statement}

@@ -1,3 +1,4 @@
+-- `meter::record_of` meets its contract. Assumes nothing.
 use Rattle.meter.proofs.Ways.{made-is}
 use borrow.Author.Needs.{needs}
 use Rattle.meter.proofs.record_of.Statement.{statement}
