@@ -1,3 +1,4 @@
+-- `items::size_at` meets its contract. Assumes nothing.
 use Rattle.items.proofs.Passes.{sizes}
 use borrow.Author.Needs.{needs}
 use Rattle.items.proofs.size_at.Statement.{statement}

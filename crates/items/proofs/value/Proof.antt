@@ -1,3 +1,4 @@
+-- `items::value` meets its contract. Assumes nothing.
 use native.Mathlib.Omega.{arith}
 use Rattle.items.proofs.Passes.{value-out, value-in}
 use borrow.Author.Needs.{needs}
