@@ -54,7 +54,7 @@ shows_nothing() {
     first=$(first_error "$1")
     case $first in
     '') echo "its log does not say what was refused" ;;
-    *'has no `Need-'* | *'has no field'*)
+    *'has no `Need-'* | *'has no `Tie`'* | *'has no field'*)
         echo "shows nothing: the proof file no longer fits the edited code ($(printf '%s' "$first" | cut -c1-200))"
         ;;
     *) return 1 ;;
