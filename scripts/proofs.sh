@@ -27,15 +27,17 @@ follow() {
         case $line in
         'fn '*': proved' | 'struct '*': proved' | 'enum '*': proved' | 'library '* | 'logic '* | 'logic=proved'* | 'linked '* | 'note: no function with a body'*) ;;
         'rt: must-fail '*)
-            [ "$stage" = edits ] || turn edits
             tried=$((tried + 1))
             echo "edit $tried of $edits, $(so_far): ${line#rt: must-fail }"
+            [ "$tried" -lt "$edits" ] || turn programs
             ;;
         'rt: '*' proved ('* | 'rt: '*' NOT PROVED'*)
             proved=$((proved + 1))
             echo "proving $proved of $crates, $(so_far): ${line#rt: }"
+            [ "$proved" -lt "$crates" ] || turn edits
             ;;
         'rt: '*' ran'* | 'rt: '*', and its run FAILED'*)
+            # an edit of a crate that is not proved is not tried
             [ "$stage" = programs ] || turn programs
             printf '%s\n' "$line"
             ;;
