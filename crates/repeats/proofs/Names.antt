@@ -14,14 +14,14 @@ use Rattle.laws.specs.Limits.{longest}
 use Rattle.laws.specs.Big.{bigOf, numberAt, Bytes}
 use Rattle.laws.proofs.Big.{bytes-take, bytes-drop}
 use Rattle.laws.proofs.Flags.{or-true}
-use Rattle.items.specs.Items.{Item, Cut, Found, none, some, itemAt, noItem, itemThen, cutFrom, cutOf, sizeAt, sameName, among, again, twice, isThere, placeOf, walkedOf}
-use Rattle.items.specs.declared.Walked.{Walked}
+use Rattle.items.specs.Items.{Item, Cut, Found, none, some, itemAt, noItem, itemThen, cutFrom, cutOf, sizeAt, sameName, among, again, twice, isThere, placeOf}
 use Rattle.items.proofs.Rule.{at-none, at-item, at-fits}
 use Rattle.items.proofs.Names.{same-list, list-same, number-same}
 use Rattle.items.proofs.Passes.{name-number}
-use Rattle.repeats.specs.Tree.{Tree, Member, Stored}
-use Rattle.repeats.specs.Repeats.{repeatOf, repeatFor, Zeros}
+use Rattle.repeats.specs.Tree.{Tree, Member, Stored, Zeros, Looked}
+use Rattle.repeats.specs.Repeats.{repeatOf, repeatFor}
 use Rattle.repeats.specs.declared.Repeat.{Repeat}
+use Rattle.repeats.specs.declared.Sought.{Sought}
 
 -- the keys of names; the last that came is the first of the list, and its key the last stored
 abbrev keysOf : List (List ℕ) → List ℕ
@@ -90,7 +90,8 @@ pub record Seeing (S keys kids : List ℕ) (room n at : ℕ) : Type 0 where
   pub came : List (List ℕ)
   pub inside : at ≤ length S
   pub count : length came ≡ n
-  pub left : n + length (cutFrom (drop at S) at .items) ≤ room
+  pub few : 8 * n ≤ at
+  pub fits : n ≤ room
   pub keys-long : length keys ≡ room
   pub kids-long : 2 * room ≤ length kids
   pub tree : Tree keys kids n
@@ -98,13 +99,14 @@ pub record Seeing (S keys kids : List ℕ) (room n at : ℕ) : Type 0 where
   pub stored : take n keys ≡ keysOf came
   pub still : again came (cutFrom (drop at S) at .items) ≡ twice (cutOf S .items)
 
-pub seeing-none : (S keys kids : List ℕ) → length (cutOf S .items) ≤ length keys → 2 * length keys ≤ length kids → Zeros kids → Seeing S keys kids (length keys) 0 0
+pub seeing-none : (S keys kids : List ℕ) → 2 * length keys ≤ length kids → Zeros kids → Seeing S keys kids (length keys) 0 0
 unfolding cutOf twice
-seeing-none S keys kids h l z = record {
+seeing-none S keys kids l z = record {
   came = [];
   inside = omega arith;
   count = refl;
-  left = omega arith;
+  few = omega arith;
+  fits = omega arith;
   keys-long = refl;
   kids-long = l;
   tree = record { order = λ k. inl (z k); reach = λ j b. absurd (omega arith) };
@@ -114,11 +116,28 @@ seeing-none S keys kids h l z = record {
 }
 
 module _ (S : List ℕ) (bytes : Bytes S) (keys kids : List ℕ) (room n at k : ℕ) (s : Seeing S keys kids room n at) (size : k ≡ sizeAt S at) where
-  pub seen-all : k ≡ 0 → _≡_ {A = Repeat} (record { found = false; place = 0 }) (repeatOf (twice (cutOf S .items)))
+  pub seen-all : k ≡ 0 → (r : Sought) → r ≡ record { full = false; first = record { found = false; place = 0 } } → Looked S room r
   unfolding repeatOf isThere placeOf noItem again
-  seen-all z =
+  seen-all z r q = rw q (
       let e : none ≡ twice (cutOf S .items) = sym (ap (λ (c : Cut). again (s .came) (c .items)) (at-none S at k size z)) ∙ s .still in
-      ap repeatOf e
+      record { full = λ f. absurd (true≢false (sym f)); done = λ f. ap repeatOf e })
+
+  -- no room is left
+  pub seen-full : (k ≡ 0 → ⊥) → n ≡ length keys → (r : Sought) → r ≡ record { full = true; first = record { found = false; place = 0 } } → Looked S room r
+  seen-full some′ e r q = rw q (
+      let f = at-fits S at k size some′ in
+      let a = f .0 in
+      let b = f .1 in
+      let c = s .few in
+      let d = s .keys-long in
+      record { full = λ t. omega arith; done = λ t. absurd (true≢false t) })
+
+  pub nearer : (k ≡ 0 → ⊥) → length S - (at + k) < length S - at
+  nearer some′ =
+      let f = at-fits S at k size some′ in
+      let a = f .0 in
+      let b = f .1 in
+      omega arith
 
   module _ (some′ : k ≡ 0 → ⊥) (key : ℕ) (word : key ≡ numberAt 4 S at) where
     N : List ℕ
@@ -136,10 +155,6 @@ module _ (S : List ℕ) (bytes : Bytes S) (keys kids : List ℕ) (room n at k : 
     unfolding N
     key-is = name-number S at k key size some′ word
 
-    one-more : length (cutFrom (drop at S) at .items) ≡ 1 + length (cutFrom (drop (at + k) S) (at + k) .items)
-    unfolding itemThen
-    one-more = ap (λ (c : Cut). length (c .items)) (at-item S at k size some′) ∙ omega arith
-
     next-is : (b : Bool) → among N (s .came) ≡ b
         → pick b (some (itemAt (drop at S) at)) (again (N ∷ s .came) (cutFrom (drop (at + k) S) (at + k) .items)) ≡ twice (cutOf S .items)
     unfolding N itemThen itemAt again
@@ -147,13 +162,12 @@ module _ (S : List ℕ) (bytes : Bytes S) (keys kids : List ℕ) (room n at k : 
         let r = ap (λ (c : Cut). again (s .came) (c .items)) (at-item S at k size some′) in
         ap (λ (t : Bool). pick t (some (itemAt (drop at S) at)) (again (N ∷ s .came) (cutFrom (drop (at + k) S) (at + k) .items))) (sym e) ∙ sym r ∙ s .still
 
-    pub can-insert : room ≤ 8192 → (n < length keys) × (n < 8192) × (2 * n + 2 ≤ length kids) × Tree keys kids n
-    can-insert r =
-        let l = s .left in
-        let o = one-more in
+    pub can-insert : room ≤ 8192 → (n ≡ length keys → ⊥) → (n < length keys) × (n < 8192) × (2 * n + 2 ≤ length kids) × Tree keys kids n
+    can-insert r free =
+        let l = s .fits in
         let a = s .keys-long in
         let b = s .kids-long in
-        (omega arith, omega arith, omega arith, s .tree)
+        (omega (arith, free), omega (arith, free), omega (arith, free), s .tree)
 
     module _ (b : Bool) (keys′ kids′ : List ℕ) (did : Stored keys kids n key b keys′ kids′) where
       was-there : Member keys n key → among N (s .came) ≡ true
@@ -179,24 +193,26 @@ module _ (S : List ℕ) (bytes : Bytes S) (keys kids : List ℕ) (room n at k : 
                 same = sym (getD-take n keys (r .index) 0 h) ∙ ap (λ (x : List ℕ). getD x (r .index) 0) (s .stored) ∙ r .same ∙ sym key-is;
               }))
 
-      pub seen-again : b ≡ true → _≡_ {A = Repeat} (record { found = true; place = at }) (repeatOf (twice (cutOf S .items)))
+      pub seen-again : b ≡ true → (r : Sought) → r ≡ record { full = false; first = record { found = true; place = at } } → Looked S room r
       unfolding repeatOf isThere placeOf itemAt
-      seen-again t = ap repeatOf (next-is true (was-there (did .was t .0)))
+      seen-again t r q = rw q (record { full = λ f. absurd (true≢false (sym f)); done = λ f. ap repeatOf (next-is true (was-there (did .was t .0))) })
 
-      pub seeing-more : b ≡ false → length keys′ ≡ length keys → length kids′ ≡ length kids → Seeing S keys′ kids′ room (n + 1) (at + k)
-      seeing-more t l m =
+      pub seeing-more : b ≡ false → (n ≡ length keys → ⊥) → length keys′ ≡ length keys → length kids′ ≡ length kids → Seeing S keys′ kids′ room (n + 1) (at + k)
+      seeing-more t free l m =
           let f = at-fits S at k size some′ in
           let a0 = f .0 in
           let a1 = f .1 in
-          let o = one-more in
           let c = s .count in
-          let r = s .left in
+          let r = s .few in
+          let g = s .fits in
+          let h = s .keys-long in
           let q = s .kids-long in
           record {
             came = N ∷ s .came;
             inside = omega arith;
             count = omega arith;
-            left = omega arith;
+            few = omega arith;
+            fits = omega (arith, free);
             keys-long = l ∙ s .keys-long;
             kids-long = omega arith;
             tree = did .new t .1;
@@ -222,17 +238,20 @@ pub repeat-short : (S : List ℕ) (r : Repeat) → length S ≤ 65528 → r ≡ 
 unfolding repeatFor
 repeat-short S r h e = rw (le-ltb 65528 (length S) h) e
 
-pub few-items : (S : List ℕ) (w : Walked) → w ≡ walkedOf (cutOf S) → w .count ≤ 32 → length (cutOf S .items) ≤ 32
-unfolding walkedOf
-few-items S w e h = let q : w .count ≡ length (cutOf S .items) = ap (λ (x : Walked). x .count) e in omega arith
+pub repeat-few : (S : List ℕ) (r : Sought) → length S ≤ 65528 → (r .full ≡ false → r .first ≡ repeatOf (twice (cutOf S .items))) → r .full ≡ false → r .first ≡ repeatFor S
+repeat-few S r h e f = repeat-short S (r .first) h (e f)
 
-pub many-items : (S : List ℕ) (w : Walked) → w ≡ walkedOf (cutOf S) → w .count * 8 ≤ length S → length S ≤ 65528 → length (cutOf S .items) ≤ 8192
-unfolding walkedOf
-many-items S w e h l = let q : w .count ≡ length (cutOf S .items) = ap (λ (x : Walked). x .count) e in omega arith
+-- 8,192 items have more bytes than a packet
+pub never-full : (S : List ℕ) (r : Sought) → length S ≤ 65528 → Looked S 8192 r → r .first ≡ repeatOf (twice (cutOf S .items))
+never-full S r h k = go (r .full) refl
+  where
+    go : (b : Bool) → r .full ≡ b → r .first ≡ repeatOf (twice (cutOf S .items))
+    go true e = let f = k .full e in absurd (omega arith)
+    go false e = k .done e
 
 -- arrays of n and m zeros have room for n names
-pub arrays-fit : (S : List ℕ) (n m : ℕ) → length (cutOf S .items) ≤ n → n ≤ 8192 → 2 * n ≤ m
-    → (length (cutOf S .items) ≤ length (replicate {A = ℕ} n 0)) × (length (replicate {A = ℕ} n 0) ≤ 8192)
+pub arrays-fit : (n m : ℕ) → n ≤ 8192 → 2 * n ≤ m
+    → (length (replicate {A = ℕ} n 0) ≤ 8192)
     × (2 * length (replicate {A = ℕ} n 0) ≤ length (replicate {A = ℕ} m 0)) × Zeros (replicate m 0)
-arrays-fit S n m h l k =
-    rw (length-replicate {A = ℕ} n 0, length-replicate {A = ℕ} m 0) (h, l, k, zeros m)
+arrays-fit n m l k =
+    rw (length-replicate {A = ℕ} n 0, length-replicate {A = ℕ} m 0) (l, k, zeros m)

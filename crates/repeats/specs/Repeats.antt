@@ -1,10 +1,8 @@
 -- The first item whose name came earlier (01, "MDI packet": no name, known or not, stands twice; refusal 3). Assumes nothing.
 use Prim.Native.Nat.{ℕ}
-use mathlib.Core.Bool.{false}
 use mathlib.Core.List.{List}
-use mathlib.Core.Path.{_≡_}
 use lib.Dec.{ltb}
-use lib.ListN.{length, getD}
+use lib.ListN.{length}
 use Rattle.laws.specs.Limits.{longest}
 use Rattle.laws.specs.Pick.{pick}
 use Rattle.items.specs.Items.{Found, none, cutOf, twice, isThere, placeOf}
@@ -16,6 +14,3 @@ repeatOf f = record { found = isThere f; place = placeOf f }
 -- a packet over 65,528 bytes is not looked at: it is refused with 1 before
 unfoldable pub repeatFor : List ℕ → Repeat
 repeatFor packet = pick (ltb longest (length packet)) (repeatOf none) (repeatOf (twice (cutOf packet .items)))
-
-abbrev pub Zeros : List ℕ → Type 0
-Zeros s = (k : ℕ) → getD s k 0 ≡ 0

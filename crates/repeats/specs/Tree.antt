@@ -1,4 +1,4 @@
--- A digital search tree in two arrays: node k has the key keys k and the children kids (2 k) and kids (2 k + 1), 0 where there is none. The
+-- Invariants of the private functions; no promise cites them. A digital search tree in two arrays: node k has the key keys k and the children kids (2 k) and kids (2 k + 1), 0 where there is none. The
 -- way of a key takes its bits from the low end. Assumes nothing.
 use Prim.Native.Nat.{ℕ, zero, suc, _+_, _*_, _/_, _%_, _≤_, _<_}
 use mathlib.Core.Path.{_≡_}
@@ -6,7 +6,10 @@ use mathlib.Core.Bool.{Bool, true, false}
 use mathlib.Core.List.{List, [], _∷_, _++_}
 use mathlib.Core.Logic.{_⊎_}
 use lib.ListN.{length, getD, take}
+use Rattle.items.specs.Items.{cutOf, twice}
+use Rattle.repeats.specs.Repeats.{repeatOf}
 use Rattle.repeats.specs.declared.Step.{Step}
+use Rattle.repeats.specs.declared.Sought.{Sought}
 
 abbrev pub slotOf : ℕ → ℕ → ℕ
 slotOf w v = 2 * v + w % 2
@@ -49,3 +52,12 @@ pub record Ends (keys kids : List ℕ) (n key : ℕ) (r : Step) : Type 0 where
 pub record Stored (keys kids : List ℕ) (n key : ℕ) (r : Bool) (keys′ kids′ : List ℕ) : Type 0 where
   pub was : r ≡ true → Member keys n key × (keys′ ≡ keys) × (kids′ ≡ kids)
   pub new : r ≡ false → (Member keys n key → ⊥) × Tree keys′ kids′ (n + 1) × (take (n + 1) keys′ ≡ take n keys ++ (key ∷ []))
+
+-- an array that is all clear
+abbrev pub Zeros : List ℕ → Type 0
+Zeros s = (k : ℕ) → getD s k 0 ≡ 0
+
+-- what `store` does with room for so many names: it has the answer, unless there are more items than that, of 8 bytes at least each
+pub record Looked (S : List ℕ) (room : ℕ) (r : Sought) : Type 0 where
+  pub full : r .full ≡ true → 8 * room + 8 ≤ length S
+  pub done : r .full ≡ false → r .first ≡ repeatOf (twice (cutOf S .items))

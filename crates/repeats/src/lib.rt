@@ -3,9 +3,10 @@
 ghost use mathlib.Core.Path.{_≡_};
 ghost use Prim.Native.Nat.{_+_, _*_, _≤_, _<_};
 ghost use lib.ListN.{length};
+ghost use mathlib.Core.Bool.{false};
 ghost use Rattle.items.specs.Items.{cutOf, twice};
-ghost use Rattle.repeats.specs.Tree.{Tree, Ends, Stored};
-ghost use Rattle.repeats.specs.Repeats.{repeatOf, repeatFor, Zeros};
+ghost use Rattle.repeats.specs.Tree.{Tree, Ends, Stored, Zeros, Looked};
+ghost use Rattle.repeats.specs.Repeats.{repeatOf, repeatFor};
 
 // Whether there is such an item, and its offset in the packet.
 pub struct Repeat {
@@ -17,6 +18,12 @@ pub struct Repeat {
 struct Step {
     found: bool,
     at: usize,
+}
+
+// The answer, where the arrays had room for all the names.
+struct Sought {
+    full: bool,
+    first: Repeat,
 }
 
 fn wide(x: u32) -> usize
@@ -70,26 +77,30 @@ fn insert(key: u32, n: usize, keys: &mut [u32], kids: &mut [u32]) -> bool
     false
 }
 
-// The names of the packet's items are stored one after the other, until one is there already.
-fn store(s: &[u8], keys: &mut [u32], kids: &mut [u32]) -> Repeat
-    requires { ⌜ (length (cutOf (now s) .items) ≤ length (now keys)) × (length (now keys) ≤ 8192) × (2 * length (now keys) ≤ length (now kids)) × Zeros (now kids) ⌝ }
-    ensures { λ r. ⌜ r ≡ repeatOf (twice (cutOf (now (s .entry)) .items)) ⌝ }
+fn answered(full: bool, found: bool, place: usize) -> Sought
+    ensures { λ r. ⌜ r ≡ record { full = full; first = record { found = found; place = place } } ⌝ }
+{
+    let first = Repeat { found, place };
+    Sought { full, first }
+}
+
+// The names of the packet's items are stored one after the other, until one is there already or there is no room.
+fn store(s: &[u8], keys: &mut [u32], kids: &mut [u32]) -> Sought
+    requires { ⌜ (length (now keys) ≤ 8192) × (2 * length (now keys) ≤ length (now kids)) × Zeros (now kids) ⌝ }
+    ensures { λ r. ⌜ Looked (now (s .entry)) (length (now (keys .entry))) r ⌝ }
 {
     let mut n: usize = 0;
     let mut at: usize = 0;
     loop {
         let k = items::size_at(s, at);
         if k == 0 {
-            return Repeat {
-                found: false,
-                place: 0,
-            };
+            return answered(false, false, 0);
+        }
+        if n == keys.len() {
+            return answered(true, false, 0);
         }
         if insert(fields::read32(s, at), n, keys, kids) {
-            return Repeat {
-                found: true,
-                place: at,
-            };
+            return answered(false, true, at);
         }
         n += 1;
         at += k;
@@ -97,9 +108,8 @@ fn store(s: &[u8], keys: &mut [u32], kids: &mut [u32]) -> Repeat
 }
 
 // Arrays for few items and for as many as a packet may have: most packets are spared the clearing of 96 KB.
-fn among_few(s: &[u8]) -> Repeat
-    requires { ⌜ length (cutOf (now s) .items) ≤ 32 ⌝ }
-    ensures { λ r. ⌜ r ≡ repeatOf (twice (cutOf (now (s .entry)) .items)) ⌝ }
+fn among_few(s: &[u8]) -> Sought
+    ensures { λ r. ⌜ (r .full ≡ false → r .first ≡ repeatOf (twice (cutOf (now (s .entry)) .items))) ⌝ }
 {
     let mut keys = [0u32; 32];
     let mut kids = [0u32; 64];
@@ -107,12 +117,13 @@ fn among_few(s: &[u8]) -> Repeat
 }
 
 fn among_many(s: &[u8]) -> Repeat
-    requires { ⌜ length (cutOf (now s) .items) ≤ 8192 ⌝ }
+    requires { ⌜ length (now s) ≤ 65528 ⌝ }
     ensures { λ r. ⌜ r ≡ repeatOf (twice (cutOf (now (s .entry)) .items)) ⌝ }
 {
     let mut keys = [0u32; 8192];
     let mut kids = [0u32; 16384];
-    store(s, &mut keys, &mut kids)
+    let r = store(s, &mut keys, &mut kids);
+    r.first
 }
 
 // Of a packet of up to 65,528 bytes; a longer one is not looked at, and answered as one in which no name stands twice.
@@ -125,9 +136,9 @@ pub fn first_again(packet: &[u8]) -> Repeat
             place: 0,
         };
     }
-    let w = items::walk(packet);
-    if w.count <= 32 {
-        return among_few(packet);
+    let few = among_few(packet);
+    if few.full {
+        return among_many(packet);
     }
-    among_many(packet)
+    few.first
 }

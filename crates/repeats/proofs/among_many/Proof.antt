@@ -1,4 +1,4 @@
-use Rattle.repeats.proofs.Names.{arrays-fit}
+use Rattle.repeats.proofs.Names.{arrays-fit, never-full}
 use native.Mathlib.Omega.{arith}
 use borrow.Author.Needs.{needs}
 use Rattle.repeats.proofs.among_many.Statement.{statement}
@@ -7,21 +7,21 @@ use Rattle.repeats.proofs.among_many.Reads as reads
 use Rattle.repeats.proofs.among_many.Lts as lts
 use Rattle.repeats.proofs.store.Reads as store-reads
 
--- src/lib.rt:115:14
+-- src/lib.rt:125:22
 slice-aggregate-store : tie.Need-slice-aggregate-store
 slice-aggregate-store c = search needs
 
--- src/lib.rt:115:25
+-- src/lib.rt:125:33
 slice-aggregate-store-2 : tie.Need-slice-aggregate-store-2
 slice-aggregate-store-2 c = search needs
 
--- src/lib.rt:115:5
+-- src/lib.rt:125:9
 store-requires : tie.Need-store-requires
-store-requires c κs = arrays-fit _ 8192 16384 (c .before .before .before .pre) (omega arith) (omega arith)
+store-requires c κs = arrays-fit 8192 16384 (omega arith) (omega arith)
 
--- src/lib.rt:109:1
+-- src/lib.rt:119:1
 returns : tie.Need-returns
-returns c = search needs
+returns c = never-full _ _ (c .before .before .before .before .before .before .before .pre) (c .before .before .before .store .ensures)
 
 pub among-many-spec : {M : Type 1} → statement M
 among-many-spec =

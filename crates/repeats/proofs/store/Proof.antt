@@ -1,4 +1,4 @@
-use Rattle.repeats.proofs.Names.{Seeing, seeing-none, seen-all, can-insert, seen-again, seeing-more}
+use Rattle.repeats.proofs.Names.{Seeing, seeing-none, seen-all, seen-full, nearer, can-insert, seen-again, seeing-more}
 use Rattle.items.proofs.Rule.{at-fits}
 use borrow.Author.Needs.{needs}
 use native.Mathlib.Omega.{arith}
@@ -11,6 +11,7 @@ use Rattle.repeats.proofs.store.Reads as reads
 use Rattle.repeats.proofs.store.Lts as lts
 use Rattle.fields.proofs.read32.Reads as read32-reads
 use Rattle.items.proofs.size_at.Reads as size-at-reads
+use Rattle.repeats.proofs.answered.Reads as answered-reads
 use Rattle.repeats.proofs.insert.Reads as insert-reads
 
 abbrev Inv-loop : tie.InvT-loop
@@ -19,120 +20,160 @@ Inv-loop s keys₀ kids₀ n₀ at₀ keys kids n at = Seeing s keys kids (lengt
 abbrev μ-loop : tie.MeasureT-loop
 μ-loop s keys₀ kids₀ n₀ at₀ keys kids n at = length s - at
 
--- src/lib.rt:80:5
+-- src/lib.rt:94:5
 loop-holds : tie.Need-loop-holds Inv-loop μ-loop
-loop-holds c =
-    let p = c .before .before .before .pre in (seeing-none _ _ _ (p .0) (p .2) (p .3), refl)
+loop-holds c = let p = c .before .before .before .pre in (seeing-none _ _ _ (p .1) (p .2), refl)
 
--- src/lib.rt:81:13
+-- src/lib.rt:95:13
 size-at-requires : tie.Need-size-at-requires Inv-loop μ-loop
-size-at-requires c κs =
-    search needs
+size-at-requires c κs = search needs
 
--- src/lib.rt:83:13
+-- src/lib.rt:97:13
+answered-requires : tie.Need-answered-requires Inv-loop μ-loop
+answered-requires c κs = search needs
+
+-- src/lib.rt:97:13
 same-length : tie.Need-same-length Inv-loop μ-loop
-same-length c =
-    c .before .before .loop .inv .0 .keys-long
+same-length c = c .before .before .before .loop .inv .0 .keys-long
 
--- src/lib.rt:83:13
+-- src/lib.rt:97:13
 same-length-2 : tie.Need-same-length-2 Inv-loop μ-loop
-same-length-2 c =
-    c .before .before .loop .inv .1
+same-length-2 c = c .before .before .before .loop .inv .1
 
--- src/lib.rt:83:13
+-- src/lib.rt:97:13
 returns : tie.Need-returns Inv-loop μ-loop
 returns c =
-    let l = c .before .before in
+    let l = c .before .before .before in
     let k = l .before .before .before in
     let a = k .before .args in
-    seen-all (a .s .now) (λ j. omega (arith, k .shared-slice-known .given j)) _ _ _ _ _ _ (l .loop .inv .0) (c .before .size-at .ensures) (c .if1 .taken)
+    seen-all (a .s .now) (λ j. omega (arith, k .shared-slice-known .given j)) _ _ _ _ _ _ (l .loop .inv .0) (c .before .before .size-at .ensures) (c .before .if1 .taken) _ (c .answered .ensures)
 
--- src/lib.rt:88:19
+-- src/lib.rt:100:13
+answered-requires-2 : tie.Need-answered-requires-2 Inv-loop μ-loop
+answered-requires-2 c κs = search needs
+
+-- src/lib.rt:100:13
+same-length-3 : tie.Need-same-length-3 Inv-loop μ-loop
+same-length-3 c = c .before .before .before .before .loop .inv .0 .keys-long
+
+-- src/lib.rt:100:13
+same-length-4 : tie.Need-same-length-4 Inv-loop μ-loop
+same-length-4 c = c .before .before .before .before .loop .inv .1
+
+-- src/lib.rt:100:13
+returns-2 : tie.Need-returns-2 Inv-loop μ-loop
+returns-2 c =
+    let e = c .before .before in
+    let l = e .before .before in
+    let k = l .before .before .before in
+    let a = k .before .args in
+    seen-full (a .s .now) (λ j. omega (arith, k .shared-slice-known .given j)) _ _ _ _ _ _ (l .loop .inv .0) (e .before .size-at .ensures) (e .if1 .left) (c .before .if2 .taken) _ (c .answered2 .ensures)
+
+-- src/lib.rt:102:19
 read32-requires : tie.Need-read32-requires Inv-loop μ-loop
-read32-requires c κs =
-    search needs
+read32-requires c κs = search needs
 
--- src/lib.rt:88:12
+-- src/lib.rt:102:12
 insert-requires : tie.Need-insert-requires Inv-loop μ-loop
 insert-requires c κs =
-    let l = c .before .before .before .before .before in
+    let r = c .before .before in
+    let e2 = r .before in
+    let e = e2 .before in
+    let l = e .before .before in
     let k = l .before .before .before in
     let a = k .before .args in
-    can-insert (a .s .now) (λ j. omega (arith, k .shared-slice-known .given j)) _ _ _ _ _ _ (l .loop .inv .0) (c .before .before .before .before .size-at .ensures) (c .before .before .before .if1 .left) _ (c .before .before .read32 .ensures) (k .before .pre .1)
+    can-insert (a .s .now) (λ j. omega (arith, k .shared-slice-known .given j)) _ _ _ _ _ _ (l .loop .inv .0) (e .before .size-at .ensures) (e .if1 .left) _ (r .read32 .ensures) (k .before .pre .0) (e2 .if2 .left)
 
--- src/lib.rt:89:13
-same-length-3 : tie.Need-same-length-3 Inv-loop μ-loop
-same-length-3 c =
-    let i = c .before .before .before .before .before in
+-- src/lib.rt:103:13
+answered-requires-3 : tie.Need-answered-requires-3 Inv-loop μ-loop
+answered-requires-3 c κs = search needs
+
+-- src/lib.rt:103:13
+same-length-5 : tie.Need-same-length-5 Inv-loop μ-loop
+same-length-5 c =
+    let i = c .before .before .before .before .before .before in
     let r = i .before .before .before in
-    let l = r .before .before .before in
+    let e2 = r .before in
+    let e = e2 .before in
+    let l = e .before .before in
     let k = l .before .before .before in
     let a = k .before .args in
     i .insert .kept .1 .1 .0 ∙ l .loop .inv .0 .keys-long
 
--- src/lib.rt:89:13
-same-length-4 : tie.Need-same-length-4 Inv-loop μ-loop
-same-length-4 c =
-    let i = c .before .before .before .before .before in
+-- src/lib.rt:103:13
+same-length-6 : tie.Need-same-length-6 Inv-loop μ-loop
+same-length-6 c =
+    let i = c .before .before .before .before .before .before in
     let r = i .before .before .before in
-    let l = r .before .before .before in
+    let e2 = r .before in
+    let e = e2 .before in
+    let l = e .before .before in
     let k = l .before .before .before in
     let a = k .before .args in
     i .insert .kept .1 .1 .1 .0 ∙ l .loop .inv .1
 
--- src/lib.rt:89:13
-returns-2 : tie.Need-returns-2 Inv-loop μ-loop
-returns-2 c =
-    let i = c .before .before .before .before .before in
+-- src/lib.rt:103:13
+returns-3 : tie.Need-returns-3 Inv-loop μ-loop
+returns-3 c =
+    let i = c .before .before .before .before .before .before in
     let r = i .before .before .before in
-    let l = r .before .before .before in
+    let e2 = r .before in
+    let e = e2 .before in
+    let l = e .before .before in
     let k = l .before .before .before in
     let a = k .before .args in
-    seen-again (a .s .now) (λ j. omega (arith, k .shared-slice-known .given j)) _ _ _ _ _ _ (l .loop .inv .0) (r .before .before .size-at .ensures) (r .before .if1 .left) _ (r .read32 .ensures) _ _ _ (i .insert .ensures) (c .if2 .taken)
+    seen-again (a .s .now) (λ j. omega (arith, k .shared-slice-known .given j)) _ _ _ _ _ _ (l .loop .inv .0) (e .before .size-at .ensures) (e .if1 .left) _ (r .read32 .ensures) _ _ _ (i .insert .ensures) (c .before .if3 .taken) _ (c .answered3 .ensures)
 
--- src/lib.rt:94:9
+-- src/lib.rt:105:9
 add-n : tie.Need-add-n Inv-loop μ-loop
 add-n c =
     let i = c .before .before .before .before .before in
     let r = i .before .before .before in
-    let l = r .before .before .before in
+    let e2 = r .before in
+    let e = e2 .before in
+    let l = e .before .before in
     let k = l .before .before .before in
     let a = k .before .args in
-    let g = can-insert (a .s .now) (λ j. omega (arith, k .shared-slice-known .given j)) _ _ _ _ _ _ (l .loop .inv .0) (r .before .before .size-at .ensures) (r .before .if1 .left) _ (r .read32 .ensures) (k .before .pre .1) in
+    let g = can-insert (a .s .now) (λ j. omega (arith, k .shared-slice-known .given j)) _ _ _ _ _ _ (l .loop .inv .0) (e .before .size-at .ensures) (e .if1 .left) _ (r .read32 .ensures) (k .before .pre .0) (e2 .if2 .left) in
     let h : l .loop .n < 8192 = g .1 in
     search needs
 
--- src/lib.rt:95:9
+-- src/lib.rt:106:9
 add-at : tie.Need-add-at Inv-loop μ-loop
 add-at c =
     let i = c .before .before .before .before .before in
     let r = i .before .before .before in
-    let l = r .before .before .before in
+    let e2 = r .before in
+    let e = e2 .before in
+    let l = e .before .before in
     let k = l .before .before .before in
     let a = k .before .args in
-    let f = at-fits _ _ _ (r .before .before .size-at .ensures) (r .before .if1 .left) in
+    let f = at-fits _ _ _ (e .before .size-at .ensures) (e .if1 .left) in
     search needs
 
--- src/lib.rt:80:5
+-- src/lib.rt:94:5
 loop-less : tie.Need-loop-less Inv-loop μ-loop
 loop-less c =
     let i = c .before .before .before .before .before in
     let r = i .before .before .before in
-    let l = r .before .before .before in
+    let e2 = r .before in
+    let e = e2 .before in
+    let l = e .before .before in
     let k = l .before .before .before in
     let a = k .before .args in
-    let f = at-fits _ _ _ (r .before .before .size-at .ensures) (r .before .if1 .left) in
-    omega arith
+    nearer (a .s .now) (λ j. omega (arith, k .shared-slice-known .given j)) _ _ _ _ _ _ (l .loop .inv .0) (e .before .size-at .ensures) (e .if1 .left)
 
--- src/lib.rt:80:5
+-- src/lib.rt:94:5
 loop-again : tie.Need-loop-again Inv-loop μ-loop
 loop-again c =
     let i = c .before .before .before .before .before in
     let r = i .before .before .before in
-    let l = r .before .before .before in
+    let e2 = r .before in
+    let e = e2 .before in
+    let l = e .before .before in
     let k = l .before .before .before in
     let a = k .before .args in
-    (seeing-more (a .s .now) (λ j. omega (arith, k .shared-slice-known .given j)) _ _ _ _ _ _ (l .loop .inv .0) (r .before .before .size-at .ensures) (r .before .if1 .left) _ (r .read32 .ensures) _ _ _ (i .insert .ensures) (c .if2 .left) (i .insert .kept .1 .1 .0) (i .insert .kept .1 .1 .1 .0), i .insert .kept .1 .1 .1 .0 ∙ l .loop .inv .1)
+    (seeing-more (a .s .now) (λ j. omega (arith, k .shared-slice-known .given j)) _ _ _ _ _ _ (l .loop .inv .0) (e .before .size-at .ensures) (e .if1 .left) _ (r .read32 .ensures) _ _ _ (i .insert .ensures) (c .if3 .left) (e2 .if2 .left) (i .insert .kept .1 .1 .0) (i .insert .kept .1 .1 .1 .0), i .insert .kept .1 .1 .1 .0 ∙ l .loop .inv .1)
 
 pub store-spec : {M : Type 1} → statement M
 store-spec =
@@ -142,14 +183,20 @@ store-spec =
     μ-loop
     loop-holds
     size-at-requires
+    answered-requires
     same-length
     same-length-2
     returns
-    read32-requires
-    insert-requires
+    answered-requires-2
     same-length-3
     same-length-4
     returns-2
+    read32-requires
+    insert-requires
+    answered-requires-3
+    same-length-5
+    same-length-6
+    returns-3
     add-n
     add-at
     loop-less
