@@ -1,11 +1,11 @@
 -- What the calls read out of the spots of a packet is what its items say. Assumes nothing.
-use Prim.Native.Nat.{ℕ, _+_}
+use Prim.Native.Nat.{ℕ, _+_, _≤_, _<_}
 use mathlib.Core.Path.{_≡_, refl, sym, ap, ap₂, _∙_}
 use mathlib.Core.Bool.{Bool, true, false}
 use mathlib.Core.List.{List, [], _∷_}
 use native.Mathlib.Omega.{arith}
-use borrow.Author.Tests.{eq-eqb, ne-eqb}
-use lib.Dec.{eqb}
+use borrow.Author.Tests.{eq-eqb, ne-eqb, lt-ltb, le-ltb}
+use lib.Dec.{eqb, ltb, lit<}
 use lib.ListN.{length, getD}
 use Rattle.laws.specs.Big.{numberAt}
 use Rattle.laws.specs.Pick.{pick}
@@ -25,8 +25,10 @@ use Rattle.record.specs.declared.Time.the-variants.{Absent, Given}
 use Rattle.items.specs.Items.{Item, Found, none, some, cutOf, find, spotOf, valueOf, shownAt}
 use Rattle.items.specs.declared.Spot.{Spot}
 use Rattle.items.proofs.Stands.{value-is}
-use Rattle.mdi_spots.specs.Names.{dlfc, fac, sdc, sdci, robm, str0, str1, str2, str3, tist}
-use Rattle.mdi_spots.specs.Spotted.{spotsOf}
+use Rattle.mdi_spots.specs.Names.{dlfc, fac, sdc, sdci, robm, tist}
+use Rattle.mdi_spots.specs.Table.{nameOf}
+use Rattle.mdi_spots.specs.Spotted.{spotsOf, spotIn}
+use Rattle.mdi_spots.proofs.Items.{spot-of}
 use Rattle.mdi_spots.specs.declared.Spots.{Spots}
 use Rattle.mdi_check.specs.Refusals.{testsFor, checkFor}
 use Rattle.mdi_check.specs.declared.Verdict.{Verdict}
@@ -65,17 +67,18 @@ shown : (S n : List ℕ) (x : Spot) → x ≡ spotOf (find n (cutOf S .items)) �
 shown S n x e v q = q ∙ ap (shownAt S) e ∙ value-is S n
 
 pub record-is : (S : List ℕ) (t : Spots) → t ≡ spotsOf (cutOf S .items)
-    → (a b c d e : List ℕ) → a ≡ shownAt S (t .dlfc) → b ≡ shownAt S (t .fac) → c ≡ shownAt S (t .sdc) → d ≡ shownAt S (t .sdci) → e ≡ shownAt S (t .robm)
+    → (x1 x2 x3 x4 x5 : Spot) → x1 ≡ spotIn t 1 → x2 ≡ spotIn t 2 → x3 ≡ spotIn t 3 → x4 ≡ spotIn t 4 → x5 ≡ spotIn t 5
+    → (a b c d e : List ℕ) → a ≡ shownAt S x1 → b ≡ shownAt S x2 → c ≡ shownAt S x3 → d ≡ shownAt S x4 → e ≡ shownAt S x5
     → (count : ℕ) (f : Fac) (s : Sdc) (x : Description) (mode : ℕ) (time : Time)
     → count ≡ numberAt 4 a 0 → f ≡ facOf b → s ≡ sdcOf c → x ≡ describedBy d → mode ≡ getD e 0 0 → time ≡ timeOf (find tist (cutOf S .items))
     → _≡_ {A = Record} (record { count = count; fac = f; sdc = s; description = x; robustness = mode; time = time }) (recordOf (cutOf S .items))
-unfolding recordOf spotsOf
-record-is S t h a b c d e pa pb pc pd pe count f s x mode time q1 q2 q3 q4 q5 q6 =
-    let ka = shown S dlfc (t .dlfc) (ap (λ (r : Spots). r .dlfc) h) a pa in
-    let kb = shown S fac (t .fac) (ap (λ (r : Spots). r .fac) h) b pb in
-    let kc = shown S sdc (t .sdc) (ap (λ (r : Spots). r .sdc) h) c pc in
-    let kd = shown S sdci (t .sdci) (ap (λ (r : Spots). r .sdci) h) d pd in
-    let ke = shown S robm (t .robm) (ap (λ (r : Spots). r .robm) h) e pe in
+unfolding recordOf
+record-is S t h x1 x2 x3 x4 x5 y1 y2 y3 y4 y5 a b c d e pa pb pc pd pe count f s x mode time q1 q2 q3 q4 q5 q6 =
+    let ka = shown S dlfc x1 (spot-of (cutOf S .items) t h 1 (lit< tt) x1 y1) a pa in
+    let kb = shown S fac x2 (spot-of (cutOf S .items) t h 2 (lit< tt) x2 y2) b pb in
+    let kc = shown S sdc x3 (spot-of (cutOf S .items) t h 3 (lit< tt) x3 y3) c pc in
+    let kd = shown S sdci x4 (spot-of (cutOf S .items) t h 4 (lit< tt) x4 y4) d pd in
+    let ke = shown S robm x5 (spot-of (cutOf S .items) t h 5 (lit< tt) x5 y5) e pe in
     rw (q1, q2, q3, q4, q5, q6, ka, kb, kc, kd, ke) refl
 
 module _ (p : List ℕ) (v : Verdict) (e : v ≡ checkFor p) where
@@ -110,29 +113,14 @@ module _ (p : List ℕ) (v : Verdict) (e : v ≡ checkFor p) where
     unfolding streamFor
     here = rw (← number-is, eq-eqb (v .number) 0 z) refl
 
-    pub stream-0 : n ≡ 0 → (w : List ℕ) → w ≡ shownAt p (v .spots .str0) → w ≡ streamFor p n
-    unfolding streamOf spotsOf
-    stream-0 h w q = shown p str0 (v .spots .str0) (ap (λ (r : Spots). r .str0) (spots-are z)) w q ∙ sym (here ∙ rw (eq-eqb n 0 h) refl)
+    pub stream-over : 3 < n → [] ≡ streamFor p n
+    unfolding streamOf
+    stream-over h = sym (here ∙ rw (lt-ltb 3 n h) refl)
 
-    module _ (h0 : n ≡ 0 → ⊥) where
-      pub stream-1 : n ≡ 1 → (w : List ℕ) → w ≡ shownAt p (v .spots .str1) → w ≡ streamFor p n
-      unfolding streamOf spotsOf
-      stream-1 h w q = shown p str1 (v .spots .str1) (ap (λ (r : Spots). r .str1) (spots-are z)) w q ∙ sym (here ∙ rw (ne-eqb n 0 h0, eq-eqb n 1 h) refl)
+    pub stream-row : n ≤ 3 → (x : Spot) → x ≡ spotIn (v .spots) (6 + n) → (w : List ℕ) → w ≡ shownAt p x → w ≡ streamFor p n
+    unfolding streamOf
+    stream-row h x y w q =
+        shown p (nameOf (6 + n)) x (spot-of (cutOf p .items) (v .spots) (spots-are z) (6 + n) (omega arith) x y) w q ∙ sym (here ∙ rw (le-ltb 3 n h) refl)
 
-      module _ (h1 : n ≡ 1 → ⊥) where
-        pub stream-2 : n ≡ 2 → (w : List ℕ) → w ≡ shownAt p (v .spots .str2) → w ≡ streamFor p n
-        unfolding streamOf spotsOf
-        stream-2 h w q = shown p str2 (v .spots .str2) (ap (λ (r : Spots). r .str2) (spots-are z)) w q ∙ sym (here ∙ rw (ne-eqb n 0 h0, ne-eqb n 1 h1, eq-eqb n 2 h) refl)
-
-        module _ (h2 : n ≡ 2 → ⊥) where
-          pub stream-3 : n ≡ 3 → (w : List ℕ) → w ≡ shownAt p (v .spots .str3) → w ≡ streamFor p n
-          unfolding streamOf spotsOf
-          stream-3 h w q = shown p str3 (v .spots .str3) (ap (λ (r : Spots). r .str3) (spots-are z)) w q ∙ sym (here ∙ rw (ne-eqb n 0 h0, ne-eqb n 1 h1, ne-eqb n 2 h2, eq-eqb n 3 h) refl)
-
-          pub stream-over : (n ≡ 3 → ⊥) → [] ≡ streamFor p n
-          unfolding streamOf
-          stream-over h = sym (here ∙ rw (ne-eqb n 0 h0, ne-eqb n 1 h1, ne-eqb n 2 h2, ne-eqb n 3 h) refl)
-
-pub time-spot : (S : List ℕ) (t : Spots) → t ≡ spotsOf (cutOf S .items) → t .tist ≡ spotOf (find tist (cutOf S .items))
-unfolding spotsOf
-time-spot S t e = ap (λ (r : Spots). r .tist) e
+pub time-spot : (S : List ℕ) (t : Spots) → t ≡ spotsOf (cutOf S .items) → (x : Spot) → x ≡ spotIn t 10 → x ≡ spotOf (find tist (cutOf S .items))
+time-spot S t e x q = spot-of (cutOf S .items) t e 10 (lit< tt) x q

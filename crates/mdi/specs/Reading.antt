@@ -1,7 +1,7 @@
 -- The record of an MDI packet and the bytes of its streams (01, "MDI packet"). Assumes nothing.
-use Prim.Native.Nat.{ℕ}
+use Prim.Native.Nat.{ℕ, _+_}
 use mathlib.Core.List.{List, []}
-use lib.Dec.{eqb}
+use lib.Dec.{eqb, ltb}
 use lib.ListN.{getD}
 use Rattle.laws.specs.Big.{numberAt}
 use Rattle.laws.specs.Pick.{pick}
@@ -15,7 +15,8 @@ use Rattle.record.specs.declared.Record.{Record}
 use Rattle.record.specs.declared.Time.{Time}
 use Rattle.record.specs.declared.Time.the-variants.{Absent, Given}
 use Rattle.items.specs.Items.{Item, Found, none, some, cutOf, find, valueOf}
-use Rattle.mdi_spots.specs.Names.{dlfc, fac, sdc, sdci, robm, str0, str1, str2, str3, tist}
+use Rattle.mdi_spots.specs.Names.{dlfc, fac, sdc, sdci, robm, tist}
+use Rattle.mdi_spots.specs.Table.{nameOf}
 use Rattle.mdi_check.specs.Refusals.{testsFor}
 use Rattle.mdi.specs.declared.Answer.{Answer}
 
@@ -42,11 +43,9 @@ readFor packet =
     let n = refusedWith (testsFor packet) in
     record { number = n; place = refusedAt (testsFor packet); content = pick (eqb n 0) (recordOf (cutOf packet .items)) noRecord }
 
--- the bytes of stream k: none where there is no such item, or k is over 3
+-- the bytes of stream k, which stands in row 6 + k of the table: none where there is no such item, or k is over 3
 unfoldable pub streamOf : List Item → ℕ → List ℕ
-streamOf is k =
-    pick (eqb k 0) (valueOf (find str0 is))
-    (pick (eqb k 1) (valueOf (find str1 is)) (pick (eqb k 2) (valueOf (find str2 is)) (pick (eqb k 3) (valueOf (find str3 is)) [])))
+streamOf is k = pick (ltb 3 k) [] (valueOf (find (nameOf (6 + k)) is))
 
 -- and none where the packet is refused
 unfoldable pub streamFor : List ℕ → ℕ → List ℕ

@@ -43,12 +43,12 @@ fn record_of(s: &[u8], t: Spots) -> Record
     requires { ⌜ t ≡ spotsOf (cutOf (now s) .items) ⌝ }
     ensures { λ r. ⌜ r ≡ recordOf (cutOf (now (s .entry)) .items) ⌝ }
 {
-    let count = fields::read32(items::value(s, t.dlfc), 0);
-    let fac = fac::of_value(items::value(s, t.fac));
-    let sdc = sdc::of_value(items::value(s, t.sdc));
-    let description = description::of_value(items::value(s, t.sdci));
-    let robustness = first(items::value(s, t.robm));
-    let time = time_of(s, t.tist);
+    let count = fields::read32(items::value(s, mdi_spots::spot(t, mdi_spots::DLFC)), 0);
+    let fac = fac::of_value(items::value(s, mdi_spots::spot(t, mdi_spots::FAC)));
+    let sdc = sdc::of_value(items::value(s, mdi_spots::spot(t, mdi_spots::SDC)));
+    let description = description::of_value(items::value(s, mdi_spots::spot(t, mdi_spots::SDCI)));
+    let robustness = first(items::value(s, mdi_spots::spot(t, mdi_spots::ROBM)));
+    let time = time_of(s, mdi_spots::spot(t, mdi_spots::TIST));
     Record {
         count,
         fac,
@@ -91,17 +91,8 @@ pub fn stream(packet: &[u8], n: usize) -> &[u8]
     if v.number != 0 {
         return &packet[..0];
     }
-    if n == 0 {
-        return items::value(packet, t.str0);
+    if 3 < n {
+        return &packet[..0];
     }
-    if n == 1 {
-        return items::value(packet, t.str1);
-    }
-    if n == 2 {
-        return items::value(packet, t.str2);
-    }
-    if n == 3 {
-        return items::value(packet, t.str3);
-    }
-    &packet[..0]
+    items::value(packet, mdi_spots::spot(t, mdi_spots::STR0 + n))
 }

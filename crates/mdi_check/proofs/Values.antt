@@ -5,7 +5,7 @@ use mathlib.Core.Bool.{Bool, true, false, _&&_, _||_, not}
 use mathlib.Core.List.{List, [], _∷_}
 use native.Mathlib.Omega.{arith}
 use borrow.Author.Tests.{le-leb, lt-leb, ne-eqb}
-use lib.Dec.{leb, eqb}
+use lib.Dec.{leb, eqb, lit<}
 use lib.ListN.{length, getD, take, drop}
 use lib.Seq.{length-take-le, take-all}
 use Rattle.laws.specs.Pick.{pick}
@@ -26,10 +26,10 @@ use Rattle.items.specs.declared.Spot.{Spot}
 use Rattle.items.proofs.Stands.{value-is}
 use Rattle.items.proofs.Names.{same-number, same-no}
 use Rattle.mdi_spots.specs.Names.{ptr, fac, sdc, sdci, robm, str0, str1, str2, str3, tist}
-use Rattle.mdi_spots.specs.Table.{ill}
-use Rattle.mdi_spots.specs.Spotted.{spotsOf, away}
+use Rattle.mdi_spots.specs.Table.{ill, nameOf}
+use Rattle.mdi_spots.specs.Spotted.{spotsOf, spotIn, away}
 use Rattle.mdi_spots.specs.declared.Spots.{Spots}
-use Rattle.mdi_spots.proofs.Items.{ill-is, size-is}
+use Rattle.mdi_spots.proofs.Items.{ill-is, size-is, spot-of}
 use Rattle.mdi_check.specs.Conditions.{letters, protocol, knownMode, onTime, badValue, badFac, badSdc, served, unserved, mscMode, badDescription, given, agrees, agreesAt, badStreams}
 
 -- ---- one value
@@ -96,56 +96,60 @@ module _ (S : List ℕ) where
   sized n x e = ap (λ (y : Spot). bytesFor (y .bits)) e ∙ size-is S n
 
   module _ (t : Spots) (e : t ≡ spotsOf is) where
-    pub value-at : (a b c : Bool) (u v w : List ℕ) (x y z : Bool)
-        → a ≡ not (away (t .ptr)) → u ≡ shownAt S (t .ptr) → x ≡ protocol u
-        → b ≡ not (away (t .robm)) → v ≡ shownAt S (t .robm) → y ≡ knownMode v
-        → c ≡ not (away (t .tist)) → w ≡ shownAt S (t .tist) → z ≡ onTime w
+    pub value-at : (ptr′ robm′ tist′ : Spot) (a b c : Bool) (u v w : List ℕ) (x y z : Bool)
+        → ptr′ ≡ spotIn t 0 → robm′ ≡ spotIn t 5 → tist′ ≡ spotIn t 10
+        → a ≡ not (away ptr′) → u ≡ shownAt S ptr′ → x ≡ protocol u
+        → b ≡ not (away robm′) → v ≡ shownAt S robm′ → y ≡ knownMode v
+        → c ≡ not (away tist′) → w ≡ shownAt S tist′ → z ≡ onTime w
         → (a && not x || b && not y || c && not z) ≡ badValue is
-    unfolding badValue spotsOf
-    value-at a b c u v w x y z a1 a2 a3 b1 b2 b3 c1 c2 c3 =
+    unfolding badValue
+    value-at ptr′ robm′ tist′ a b c u v w x y z p q r a1 a2 a3 b1 b2 b3 c1 c2 c3 =
         rw (
-          one protocol ptr (t .ptr) (ap (λ (r : Spots). r .ptr) e) a u x a1 a2 a3,
-          one knownMode robm (t .robm) (ap (λ (r : Spots). r .robm) e) b v y b1 b2 b3,
-          one onTime tist (t .tist) (ap (λ (r : Spots). r .tist) e) c w z c1 c2 c3,
+          one protocol ptr ptr′ (spot-of is t e 0 (lit< tt) ptr′ p) a u x a1 a2 a3,
+          one knownMode robm robm′ (spot-of is t e 5 (lit< tt) robm′ q) b v y b1 b2 b3,
+          one onTime tist tist′ (spot-of is t e 10 (lit< tt) tist′ r) c w z c1 c2 c3,
         ) refl
 
-    pub fac-at : (a : Bool) (v : List ℕ) (b : Bool) → a ≡ not (away (t .fac)) → v ≡ shownAt S (t .fac) → b ≡ fast.sealed v → (a && not b) ≡ badFac is
-    unfolding badFac spotsOf
-    fac-at a v b p q r = one fast.sealed fac (t .fac) (ap (λ (r : Spots). r .fac) e) a v b p q r
+    pub fac-at : (x : Spot) (a : Bool) (v : List ℕ) (b : Bool) → x ≡ spotIn t 2 → a ≡ not (away x) → v ≡ shownAt S x → b ≡ fast.sealed v → (a && not b) ≡ badFac is
+    unfolding badFac
+    fac-at x a v b y p q r = one fast.sealed fac x (spot-of is t e 2 (lit< tt) x y) a v b p q r
 
-    pub sdc-at : (a : Bool) (v : List ℕ) (b : Bool) → a ≡ not (away (t .sdc)) → v ≡ shownAt S (t .sdc) → b ≡ block.sealed v → (a && not b) ≡ badSdc is
-    unfolding badSdc spotsOf
-    sdc-at a v b p q r = one block.sealed sdc (t .sdc) (ap (λ (r : Spots). r .sdc) e) a v b p q r
+    pub sdc-at : (x : Spot) (a : Bool) (v : List ℕ) (b : Bool) → x ≡ spotIn t 3 → a ≡ not (away x) → v ≡ shownAt S x → b ≡ block.sealed v → (a && not b) ≡ badSdc is
+    unfolding badSdc
+    sdc-at x a v b y p q r = one block.sealed sdc x (spot-of is t e 3 (lit< tt) x y) a v b p q r
 
-    pub served-at : (a : Bool) (v : List ℕ) (f : Fac) (b : Bool) → a ≡ not (away (t .fac)) → v ≡ shownAt S (t .fac) → f ≡ facOf v → b ≡ notServed f → (a && b) ≡ unserved is
-    unfolding unserved spotsOf served
-    served-at a v f b p q r s = one-not (λ u. notServed (facOf u)) fac (t .fac) (ap (λ (r : Spots). r .fac) e) a v b p q (s ∙ ap notServed r)
+    pub served-at : (x : Spot) (a : Bool) (v : List ℕ) (f : Fac) (b : Bool)
+        → x ≡ spotIn t 2 → a ≡ not (away x) → v ≡ shownAt S x → f ≡ facOf v → b ≡ notServed f → (a && b) ≡ unserved is
+    unfolding unserved served
+    served-at x a v f b y p q r s = one-not (λ u. notServed (facOf u)) fac x (spot-of is t e 2 (lit< tt) x y) a v b p q (s ∙ ap notServed r)
 
-    pub description-at : (u : List ℕ) (f : Fac) (v : List ℕ) (d : Description) (a b : Bool)
-        → u ≡ shownAt S (t .fac) → f ≡ facOf u → v ≡ shownAt S (t .sdci) → d ≡ describedBy v → a ≡ not (away (t .sdci)) → b ≡ illFormed (f .msc) d
+    pub description-at : (x : Spot) (u : List ℕ) (f : Fac) (y : Spot) (v : List ℕ) (d : Description) (a b : Bool)
+        → x ≡ spotIn t 2 → u ≡ shownAt S x → f ≡ facOf u → y ≡ spotIn t 4 → v ≡ shownAt S y → d ≡ describedBy v → a ≡ not (away y) → b ≡ illFormed (f .msc) d
         → (a && b) ≡ badDescription is
-    unfolding badDescription spotsOf mscMode
-    description-at u f v d a b p q r s k l =
-        let m : f .msc ≡ facOf (valueOf (find fac is)) .msc = ap (λ (g : Fac). g .msc) (q ∙ ap facOf (shown fac (t .fac) (ap (λ (r : Spots). r .fac) e) u p)) in
-        one-not (λ w. illFormed (mscMode is) (describedBy w)) sdci (t .sdci) (ap (λ (r : Spots). r .sdci) e) a v b k r (l ∙ ap₂ illFormed m s)
+    unfolding badDescription mscMode
+    description-at x u f y v d a b o p q n r s k l =
+        let m : f .msc ≡ facOf (valueOf (find fac is)) .msc = ap (λ (g : Fac). g .msc) (q ∙ ap facOf (shown fac x (spot-of is t e 2 (lit< tt) x o) u p)) in
+        one-not (λ w. illFormed (mscMode is) (describedBy w)) sdci y (spot-of is t e 4 (lit< tt) y n) a v b k r (l ∙ ap₂ illFormed m s)
 
-    pub streams-at : (v : List ℕ) (d : Description) (a b : Bool)
-        → v ≡ shownAt S (t .sdci) → d ≡ describedBy v → a ≡ not (away (t .sdci)) → b ≡ agreesAt t d → (a && not b) ≡ badStreams is
-    unfolding badStreams spotsOf agrees agreesAt
-    streams-at v d a b p q r k =
-        let k0 = sized str0 (t .str0) (ap (λ (r : Spots). r .str0) e) in
-        let k1 = sized str1 (t .str1) (ap (λ (r : Spots). r .str1) e) in
-        let k2 = sized str2 (t .str2) (ap (λ (r : Spots). r .str2) e) in
-        let k3 = sized str3 (t .str3) (ap (λ (r : Spots). r .str3) e) in
-        let f : b ≡ agrees is (describedBy v) = k ∙ rw (k0, k1, k2, k3, q) refl in
-        one (λ w. agrees is (describedBy w)) sdci (t .sdci) (ap (λ (r : Spots). r .sdci) e) a v b r p f
+    -- stream k stands in row 6 + k
+    stream-size : (k : ℕ) → k < 11 → bytesFor (spotIn t k .bits) ≡ given (nameOf k) is
+    stream-size k h = sized (nameOf k) (spotIn t k) (spot-of is t e k h (spotIn t k) refl)
+
+    pub streams-at : (y : Spot) (v : List ℕ) (d : Description) (a b : Bool)
+        → y ≡ spotIn t 4 → v ≡ shownAt S y → d ≡ describedBy v → a ≡ not (away y) → b ≡ agreesAt t d → (a && not b) ≡ badStreams is
+    unfolding badStreams agrees agreesAt
+    streams-at y v d a b n p q r k =
+        let f : b ≡ agrees is (describedBy v)
+        = k ∙ rw (stream-size 6 (lit< tt), stream-size 7 (lit< tt), stream-size 8 (lit< tt), stream-size 9 (lit< tt), q) refl in
+        one (λ w. agrees is (describedBy w)) sdci y (spot-of is t e 4 (lit< tt) y n) a v b r p f
 
 pub fills-is : (bits : ℕ) (l : Lengths) (n x y : ℕ) → n ≡ bytesFor bits → x ≡ l .a → y ≡ l .b → eqb n (x + y) ≡ eqb (bytesFor bits) (l .a + l .b)
 fills-is bits l n x y p q r = rw (p, q, r) refl
 
-pub agree-is : (t : Spots) (d : Description) (b0 b1 b2 b3 : Bool)
-    → b0 ≡ eqb (bytesFor (t .str0 .bits)) (saidOf d 0) → b1 ≡ eqb (bytesFor (t .str1 .bits)) (saidOf d 1)
-    → b2 ≡ eqb (bytesFor (t .str2 .bits)) (saidOf d 2) → b3 ≡ eqb (bytesFor (t .str3 .bits)) (saidOf d 3)
+pub agree-is : (t : Spots) (d : Description) (x0 x1 x2 x3 : Spot) (b0 b1 b2 b3 : Bool)
+    → x0 ≡ spotIn t 6 → x1 ≡ spotIn t 7 → x2 ≡ spotIn t 8 → x3 ≡ spotIn t 9
+    → b0 ≡ eqb (bytesFor (x0 .bits)) (saidOf d 0) → b1 ≡ eqb (bytesFor (x1 .bits)) (saidOf d 1)
+    → b2 ≡ eqb (bytesFor (x2 .bits)) (saidOf d 2) → b3 ≡ eqb (bytesFor (x3 .bits)) (saidOf d 3)
     → (b0 && b1 && b2 && b3) ≡ agreesAt t d
 unfolding agreesAt
-agree-is t d b0 b1 b2 b3 e0 e1 e2 e3 = rw (e0, e1, e2, e3) refl
+agree-is t d x0 x1 x2 x3 b0 b1 b2 b3 y0 y1 y2 y3 e0 e1 e2 e3 = rw (e0, e1, e2, e3, y0, y1, y2, y3) refl

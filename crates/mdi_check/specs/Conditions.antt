@@ -16,6 +16,7 @@ use Rattle.sdc.specs.Block as block
 use Rattle.items.specs.Items.{Item, find, valueOf, sameName, bytesFor}
 use Rattle.mdi_spots.specs.Names.{ptr, fac, sdc, sdci, robm, str0, str1, str2, str3, tist}
 use Rattle.mdi_spots.specs.Table.{ill}
+use Rattle.mdi_spots.specs.Spotted.{spotIn}
 use Rattle.mdi_spots.specs.declared.Spots.{Spots}
 
 -- ---- 6: protocol, major revision, robustness, milliseconds
@@ -70,13 +71,13 @@ unfoldable pub agrees : List Item → Description → Bool
 agrees is d =
     eqb (given str0 is) (saidOf d 0) && eqb (given str1 is) (saidOf d 1) && eqb (given str2 is) (saidOf d 2) && eqb (given str3 is) (saidOf d 3)
 
--- the same asked of the spots
+-- the same asked of the spots: the streams are rows 6 to 9 of the table
 unfoldable pub agreesAt : Spots → Description → Bool
 agreesAt t d =
-    eqb (bytesFor (t .str0 .bits)) (saidOf d 0)
-    && eqb (bytesFor (t .str1 .bits)) (saidOf d 1)
-    && eqb (bytesFor (t .str2 .bits)) (saidOf d 2)
-    && eqb (bytesFor (t .str3 .bits)) (saidOf d 3)
+    eqb (bytesFor (spotIn t 6 .bits)) (saidOf d 0)
+    && eqb (bytesFor (spotIn t 7 .bits)) (saidOf d 1)
+    && eqb (bytesFor (spotIn t 8 .bits)) (saidOf d 2)
+    && eqb (bytesFor (spotIn t 9 .bits)) (saidOf d 3)
 
 unfoldable pub badStreams : List Item → Bool
 badStreams is = ill (λ v. agrees is (describedBy v)) (find sdci is)

@@ -26,19 +26,9 @@ pub struct Verdict {
 fn refused(number: u32, place: usize) -> Verdict
     ensures { λ r. ⌜ r ≡ record { number = number; place = place; spots = nowhere } ⌝ }
 {
-    let away = Spot { start: 0, bits: 0 };
     let spots = Spots {
-        ptr: away,
-        dlfc: away,
-        fac: away,
-        sdc: away,
-        sdci: away,
-        robm: away,
-        str0: away,
-        str1: away,
-        str2: away,
-        str3: away,
-        tist: away,
+        start: [0usize; 11],
+        bits: [0u32; 11],
     };
     Verdict {
         number,
@@ -87,9 +77,12 @@ fn bad_value(s: &[u8], t: Spots) -> bool
     requires { ⌜ t ≡ spotsOf (cutOf (now s) .items) ⌝ }
     ensures { λ r. ⌜ r ≡ badValue (cutOf (now (s .entry)) .items) ⌝ }
 {
-    (is_there(t.ptr) & !is_protocol(items::value(s, t.ptr)))
-        | (is_there(t.robm) & !is_known_mode(items::value(s, t.robm)))
-        | (is_there(t.tist) & !is_on_time(items::value(s, t.tist)))
+    let ptr = mdi_spots::spot(t, mdi_spots::PTR);
+    let robm = mdi_spots::spot(t, mdi_spots::ROBM);
+    let tist = mdi_spots::spot(t, mdi_spots::TIST);
+    (is_there(ptr) & !is_protocol(items::value(s, ptr)))
+        | (is_there(robm) & !is_known_mode(items::value(s, robm)))
+        | (is_there(tist) & !is_on_time(items::value(s, tist)))
 }
 
 // 7
@@ -97,7 +90,8 @@ fn bad_fac(s: &[u8], t: Spots) -> bool
     requires { ⌜ t ≡ spotsOf (cutOf (now s) .items) ⌝ }
     ensures { λ r. ⌜ r ≡ badFac (cutOf (now (s .entry)) .items) ⌝ }
 {
-    is_there(t.fac) & !fac::is_sealed(items::value(s, t.fac))
+    let x = mdi_spots::spot(t, mdi_spots::FAC);
+    is_there(x) & !fac::is_sealed(items::value(s, x))
 }
 
 // 8
@@ -105,7 +99,8 @@ fn bad_sdc(s: &[u8], t: Spots) -> bool
     requires { ⌜ t ≡ spotsOf (cutOf (now s) .items) ⌝ }
     ensures { λ r. ⌜ r ≡ badSdc (cutOf (now (s .entry)) .items) ⌝ }
 {
-    is_there(t.sdc) & !sdc::is_sealed(items::value(s, t.sdc))
+    let x = mdi_spots::spot(t, mdi_spots::SDC);
+    is_there(x) & !sdc::is_sealed(items::value(s, x))
 }
 
 fn wide(x: u16) -> usize
@@ -129,10 +124,11 @@ fn agree(t: Spots, d: Description) -> bool
     let s1 = d.stream[1];
     let s2 = d.stream[2];
     let s3 = d.stream[3];
-    fills(t.str0.bits, s0)
-        & fills(t.str1.bits, s1)
-        & fills(t.str2.bits, s2)
-        & fills(t.str3.bits, s3)
+    let x0 = mdi_spots::spot(t, mdi_spots::STR0);
+    let x1 = mdi_spots::spot(t, mdi_spots::STR1);
+    let x2 = mdi_spots::spot(t, mdi_spots::STR2);
+    let x3 = mdi_spots::spot(t, mdi_spots::STR3);
+    fills(x0.bits, s0) & fills(x1.bits, s1) & fills(x2.bits, s2) & fills(x3.bits, s3)
 }
 
 // 9 to 11: the FAC and the description are taken apart once.
@@ -140,15 +136,17 @@ fn check_contents(s: &[u8], t: Spots) -> u32
     requires { ⌜ t ≡ spotsOf (cutOf (now s) .items) ⌝ }
     ensures { λ r. ⌜ r ≡ refusedWith (contentTests (cutOf (now (s .entry)) .items)) ⌝ }
 {
-    let f = fac::of_value(items::value(s, t.fac));
-    if is_there(t.fac) & fac::not_served(f) {
+    let x = mdi_spots::spot(t, mdi_spots::FAC);
+    let f = fac::of_value(items::value(s, x));
+    if is_there(x) & fac::not_served(f) {
         return 9;
     }
-    let d = description::of_value(items::value(s, t.sdci));
-    if is_there(t.sdci) & description::ill_formed(d, f.msc) {
+    let y = mdi_spots::spot(t, mdi_spots::SDCI);
+    let d = description::of_value(items::value(s, y));
+    if is_there(y) & description::ill_formed(d, f.msc) {
         return 10;
     }
-    if is_there(t.sdci) & !agree(t, d) {
+    if is_there(y) & !agree(t, d) {
         return 11;
     }
     0

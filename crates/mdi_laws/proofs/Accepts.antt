@@ -25,7 +25,7 @@ use Rattle.sdc.specs.Block as block
 use Rattle.items.specs.Items.{Item, Found, none, some, cutOf, find, twice, isThere, valueOf, Once}
 use Rattle.items.proofs.Once.{once-of, of-once}
 use Rattle.mdi_spots.specs.Names.{ptr, dlfc, fac, sdc, sdci, robm, str0, str1, str2, str3, tist}
-use Rattle.mdi_spots.specs.Table.{absent, wrong, ill, exactly, wholeBytes, sdcBits, sdciBits, missing, badLength}
+use Rattle.mdi_spots.specs.Table.{Row, table, anyRow, absent, wrong, ill, exactly, wholeBytes, sdcBits, sdciBits, missing, badLength}
 use Rattle.mdi_check.specs.Conditions.{protocol, knownMode, onTime, served, mscMode, agrees, badValue, badFac, badSdc, unserved, badDescription, badStreams}
 use Rattle.mdi_check.specs.Conditions as conditions
 use Rattle.mdi_check.specs.Refusals.{itemTests, testsFor}
@@ -57,7 +57,7 @@ module _ (is : List Item) (d : Description) (four : length (d .stream) ≡ 4) wh
   none-over : (k : ℕ) → 4 ≤ k → streamOf is k ≡ []
   unfolding streamOf
   none-over k h =
-      rw (ne-eqb k 0 (λ z. omega arith), ne-eqb k 1 (λ z. omega arith), ne-eqb k 2 (λ z. omega arith), ne-eqb k 3 (λ z. omega arith)) refl
+      rw (lt-ltb 3 k (omega arith)) refl
 
   pub lengths : agrees is d ≡ true → (k : ℕ) → length (streamOf is k) ≡ saidOf d k
   unfolding agrees streamOf
@@ -103,27 +103,18 @@ three a b c e0 =
     let q1 = or-false (a) b (q2 .0) in
     (q1 .0, q1 .1, q2 .1)
 
-five : (a b c d e : Bool) → (a || b || c || d || e) ≡ false → (a ≡ false) × (b ≡ false) × (c ≡ false) × (d ≡ false) × (e ≡ false)
-five a b c d e e0 =
-    let q4 = or-false (a || b || c || d) e e0 in
-    let q3 = or-false (a || b || c) d (q4 .0) in
-    let q2 = or-false (a || b) c (q3 .0) in
-    let q1 = or-false (a) b (q2 .0) in
-    (q1 .0, q1 .1, q2 .1, q3 .1, q4 .1)
+-- no row has what a test looks for
+abbrev NoRow : (Row → Bool) → List Row → Type 0
+NoRow f [] = Unit {0}
+NoRow f (r ∷ rs) = (f r ≡ false) × NoRow f rs
 
-eleven : (a b c d e f g h i j k : Bool) → (a || b || c || d || e || f || g || h || i || j || k) ≡ false → (a ≡ false) × (b ≡ false) × (c ≡ false) × (d ≡ false) × (e ≡ false) × (f ≡ false) × (g ≡ false) × (h ≡ false) × (i ≡ false) × (j ≡ false) × (k ≡ false)
-eleven a b c d e f g h i j k e0 =
-    let q10 = or-false (a || b || c || d || e || f || g || h || i || j) k e0 in
-    let q9 = or-false (a || b || c || d || e || f || g || h || i) j (q10 .0) in
-    let q8 = or-false (a || b || c || d || e || f || g || h) i (q9 .0) in
-    let q7 = or-false (a || b || c || d || e || f || g) h (q8 .0) in
-    let q6 = or-false (a || b || c || d || e || f) g (q7 .0) in
-    let q5 = or-false (a || b || c || d || e) f (q6 .0) in
-    let q4 = or-false (a || b || c || d) e (q5 .0) in
-    let q3 = or-false (a || b || c) d (q4 .0) in
-    let q2 = or-false (a || b) c (q3 .0) in
-    let q1 = or-false (a) b (q2 .0) in
-    (q1 .0, q1 .1, q2 .1, q3 .1, q4 .1, q5 .1, q6 .1, q7 .1, q8 .1, q9 .1, q10 .1)
+each-row : (f : Row → Bool) (rs : List Row) → anyRow f rs ≡ false → NoRow f rs
+each-row f [] e = tt
+each-row f (r ∷ rs) e = let q = or-false (f r) (anyRow f rs) e in (q .0, each-row f rs (q .1))
+
+no-row : (f : Row → Bool) (rs : List Row) → NoRow f rs → anyRow f rs ≡ false
+no-row f [] n = refl
+no-row f (r ∷ rs) n = rw (n .0) (no-row f rs (n .1))
 
 -- ---- THE THEOREM
 
@@ -133,20 +124,15 @@ module _ (p : List ℕ) where
 
   -- what the tests say of each item
   record Passed : Type 0 where
-    there : (absent (find ptr is) ≡ false) × (absent (find dlfc is) ≡ false) × (absent (find fac is) ≡ false) × (absent (find sdci is) ≡ false) × (absent (find robm is) ≡ false)
-    sized : (wrong (exactly 64) (find ptr is) ≡ false) × (wrong (exactly 32) (find dlfc is) ≡ false) × (wrong (exactly 72) (find fac is) ≡ false)
-        × (wrong sdcBits (find sdc is) ≡ false) × (wrong sdciBits (find sdci is) ≡ false) × (wrong (exactly 8) (find robm is) ≡ false)
-        × (wrong wholeBytes (find str0 is) ≡ false) × (wrong wholeBytes (find str1 is) ≡ false) × (wrong wholeBytes (find str2 is) ≡ false)
-        × (wrong wholeBytes (find str3 is) ≡ false) × (wrong (exactly 64) (find tist is) ≡ false)
+    there : NoRow (λ r. r .required && absent (find (r .name) is)) table
+    sized : NoRow (λ r. wrong (r .allowed) (find (r .name) is)) table
     known : (ill protocol (find ptr is) ≡ false) × (ill knownMode (find robm is) ≡ false) × (ill onTime (find tist is) ≡ false)
 
   passed : missing is ≡ false → badLength is ≡ false → badValue is ≡ false → Passed
   unfolding missing badLength badValue
   passed m l v = record {
-    there = five (absent (find ptr is)) (absent (find dlfc is)) (absent (find fac is)) (absent (find sdci is)) (absent (find robm is)) m;
-    sized = eleven (wrong (exactly 64) (find ptr is)) (wrong (exactly 32) (find dlfc is)) (wrong (exactly 72) (find fac is)) (wrong sdcBits (find sdc is))
-        (wrong sdciBits (find sdci is)) (wrong (exactly 8) (find robm is)) (wrong wholeBytes (find str0 is)) (wrong wholeBytes (find str1 is))
-        (wrong wholeBytes (find str2 is)) (wrong wholeBytes (find str3 is)) (wrong (exactly 64) (find tist is)) l;
+    there = each-row (λ r. r .required && absent (find (r .name) is)) table m;
+    sized = each-row (λ r. wrong (r .allowed) (find (r .name) is)) table l;
     known = three (ill protocol (find ptr is)) (ill knownMode (find robm is)) (ill onTime (find tist is)) v;
   }
 
@@ -184,24 +170,24 @@ module _ (p : List ℕ) where
       let f = free (testsFor p) (real 0 (testsFor p) (rising p)) e in
       let g = f .1 .1 .1 in
       let q = passed (g .0) (g .1 .0) (g .1 .1 .0) in
-      let w = required p sdci sdciBits SdciBits (λ v. not (illFormed (mscMode is) (describedBy v))) (λ v. described.WellFormed (mscMode is) (describedBy v)) (of-description (mscMode is)) (q .there .3) (q .sized .4) (g .1 .1 .1 .1 .1 .1 .0) in
-      let n = lengths is d four (agreed (q .there .3) (g .1 .1 .1 .1 .1 .1 .1 .0)) in
+      let w = required p sdci sdciBits SdciBits (λ v. not (illFormed (mscMode is) (describedBy v))) (λ v. described.WellFormed (mscMode is) (describedBy v)) (of-description (mscMode is)) (q .there .1 .1 .1 .1 .0) (q .sized .1 .1 .1 .1 .0) (g .1 .1 .1 .1 .1 .1 .0) in
+      let n = lengths is d four (agreed (q .there .1 .1 .1 .1 .0) (g .1 .1 .1 .1 .1 .1 .1 .0)) in
       let s : described.WellFormed (mscMode is) d = subst (λ (x : Description). described.WellFormed (mscMode is) x) (said (w .item) (w .there)) (w .content) in
       record {
         short = ltb-false longest (length p) (f .0);
         whole = leb-false 8 (length p - cutOf p .stop) (f .1 .0);
         once = once-of is (f .1 .1 .0);
         header = required p ptr (exactly 64) (Exactly 64) protocol Protocol of-header (q .there .0) (q .sized .0) (q .known .0);
-        count = required p dlfc (exactly 32) (Exactly 32) always Anything of-count (q .there .1) (q .sized .1) (ill-always (find dlfc is));
-        channel = required p fac (exactly 72) (Exactly 72) (λ v. fast.sealed v && served v) Channel of-channel (q .there .2) (q .sized .2) (ill-both fast.sealed served (find fac is) (g .1 .1 .1 .0) (g .1 .1 .1 .1 .1 .0));
-        block = optional p sdc sdcBits SdcBits block.sealed BlockOrNone of-block (q .sized .3) (g .1 .1 .1 .1 .0);
+        count = required p dlfc (exactly 32) (Exactly 32) always Anything of-count (q .there .1 .0) (q .sized .1 .0) (ill-always (find dlfc is));
+        channel = required p fac (exactly 72) (Exactly 72) (λ v. fast.sealed v && served v) Channel of-channel (q .there .1 .1 .0) (q .sized .1 .1 .0) (ill-both fast.sealed served (find fac is) (g .1 .1 .1 .0) (g .1 .1 .1 .1 .1 .0));
+        block = optional p sdc sdcBits SdcBits block.sealed BlockOrNone of-block (q .sized .1 .1 .1 .0) (g .1 .1 .1 .1 .0);
         description = w;
-        robustness = required p robm (exactly 8) (Exactly 8) knownMode Robustness of-robustness (q .there .4) (q .sized .5) (q .known .1);
-        stream0 = optional p str0 wholeBytes WholeBytes always Anything of-stream (q .sized .6) (ill-always (find str0 is));
-        stream1 = optional p str1 wholeBytes WholeBytes always Anything of-stream (q .sized .7) (ill-always (find str1 is));
-        stream2 = optional p str2 wholeBytes WholeBytes always Anything of-stream (q .sized .8) (ill-always (find str2 is));
-        stream3 = optional p str3 wholeBytes WholeBytes always Anything of-stream (q .sized .9) (ill-always (find str3 is));
-        time = optional p tist (exactly 64) (Exactly 64) onTime Milliseconds of-time (q .sized .10) (q .known .2);
+        robustness = required p robm (exactly 8) (Exactly 8) knownMode Robustness of-robustness (q .there .1 .1 .1 .1 .1 .0) (q .sized .1 .1 .1 .1 .1 .0) (q .known .1);
+        stream0 = optional p str0 wholeBytes WholeBytes always Anything of-stream (q .sized .1 .1 .1 .1 .1 .1 .0) (ill-always (find str0 is));
+        stream1 = optional p str1 wholeBytes WholeBytes always Anything of-stream (q .sized .1 .1 .1 .1 .1 .1 .1 .0) (ill-always (find str1 is));
+        stream2 = optional p str2 wholeBytes WholeBytes always Anything of-stream (q .sized .1 .1 .1 .1 .1 .1 .1 .1 .0) (ill-always (find str2 is));
+        stream3 = optional p str3 wholeBytes WholeBytes always Anything of-stream (q .sized .1 .1 .1 .1 .1 .1 .1 .1 .1 .0) (ill-always (find str3 is));
+        time = optional p tist (exactly 64) (Exactly 64) onTime Milliseconds of-time (q .sized .1 .1 .1 .1 .1 .1 .1 .1 .1 .1 .0) (q .known .2);
         filled = λ k h. n k;
         empty = λ k h. n k ∙ ap (λ (l : Lengths). l .a + l .b) (s .behind k h);
       }
@@ -236,9 +222,9 @@ module _ (p : List ℕ) where
           (
             of-once is (w .once),
             (
-              rw (h .0, c .0, f .0, x .0, r .0) refl,
+              no-row (λ r. r .required && absent (find (r .name) is)) table (h .0, (c .0, (f .0, (refl, (x .0, (r .0, (refl, (refl, (refl, (refl, (refl, tt))))))))))),
               (
-                rw (h .1, c .1, f .1, b .0, x .1, r .1, s0 .0, s1 .0, s2 .0, s3 .0, t .0) refl,
+                no-row (λ r. wrong (r .allowed) (find (r .name) is)) table (h .1, (c .1, (f .1, (b .0, (x .1, (r .1, (s0 .0, (s1 .0, (s2 .0, (s3 .0, (t .0, tt))))))))))),
                 (
                   rw (h .2, r .2, t .1) refl,
                   (

@@ -5,7 +5,7 @@ use mathlib.Core.Bool.{Bool, true, false, _&&_, _||_, not}
 use mathlib.Core.List.{List, [], _∷_}
 use native.Mathlib.Nat.{div-one}
 use native.Mathlib.Omega.{arith}
-use borrow.Author.Tests.{le-ltb, lt-leb, eq-eqb}
+use borrow.Author.Tests.{lt-ltb, le-ltb, lt-leb, eq-eqb}
 use lib.Dec.{ltb, leb, eqb}
 use lib.ListN.{length, getD, take, drop}
 use lib.Seq.{drop-drop}
@@ -236,13 +236,11 @@ module _ (is js : List Item) (l : Alike is js) where
 
   pub stream-same : (k : ℕ) → streamOf is k ≡ streamOf js k
   unfolding streamOf
-  stream-same k =
-      rw (
-        value-same (find str0 is) (find str0 js) (l .stream0),
-        value-same (find str1 is) (find str1 js) (l .stream1),
-        value-same (find str2 is) (find str2 js) (l .stream2),
-        value-same (find str3 is) (find str3 js) (l .stream3),
-      ) refl
+  stream-same zero = value-same (find str0 is) (find str0 js) (l .stream0)
+  stream-same (suc zero) = value-same (find str1 is) (find str1 js) (l .stream1)
+  stream-same (suc (suc zero)) = value-same (find str2 is) (find str2 js) (l .stream2)
+  stream-same (suc (suc (suc zero))) = value-same (find str3 is) (find str3 js) (l .stream3)
+  stream-same (suc (suc (suc (suc k)))) = rw (lt-ltb 3 (suc (suc (suc (suc k)))) (omega arith)) refl
 
 -- ---- THE THEOREM
 

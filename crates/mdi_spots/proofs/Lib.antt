@@ -1,4 +1,3 @@
 pub mod Items
 pub mod Ways
-pub mod Pass
 pub mod Settled

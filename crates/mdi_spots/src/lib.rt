@@ -1,143 +1,73 @@
-// Where the known items of an MDI packet stand (01, "MDI packet", the table), whether one that must be there is missing, and whether one
-// has a length that is not in the table.
+// 01's table of items ("MDI packet"): where the known items of a packet stand, whether one that must be there is missing, and whether one
+// has a length that is not in the table. A row is its place in the table.
 use items::Spot;
 ghost use mathlib.Core.Path.{_≡_};
-ghost use mathlib.Core.Bool.{true};
-ghost use mathlib.Core.List.{[]};
 ghost use Prim.Native.Nat.{_≤_};
 ghost use lib.ListN.{length};
-ghost use Rattle.laws.specs.Big.{numberAt};
 ghost use Rattle.items.specs.Items.{cutOf};
 ghost use Rattle.mdi_spots.specs.Table.{exactly, wholeBytes, sdcBits, sdciBits};
-ghost use Rattle.mdi_spots.specs.Spotted.{spotsOf, passedOf, noted, notedAll, away, wrongAt, missingAt, badLengthAt};
+ghost use Rattle.mdi_spots.specs.Spotted.{passedOf, spotIn, away, wrongAt, missingAt, badLengthAt};
 
-// One spot a known name, in the table's order.
+// The names in the table's order, four bytes each.
+const NAMES: [u8; 44] = *b"*ptrdlfcfac_sdc_sdcirobmstr0str1str2str3tist";
+
+// The row in the slot at the remainder of its name's number by 13; 11 where there is none.
+const SLOTS: [u8; 13] = [11, 2, 0, 6, 7, 8, 9, 4, 5, 10, 3, 1, 11];
+
+pub const PTR: usize = 0;
+
+pub const DLFC: usize = 1;
+
+pub const FAC: usize = 2;
+
+pub const SDC: usize = 3;
+
+pub const SDCI: usize = 4;
+
+pub const ROBM: usize = 5;
+
+pub const STR0: usize = 6;
+
+pub const STR1: usize = 7;
+
+pub const STR2: usize = 8;
+
+pub const STR3: usize = 9;
+
+pub const TIST: usize = 10;
+
+// Where the value of each row's item starts in the packet, and how many bits it has; 0 and 0: there is no such item.
 pub struct Spots {
-    pub ptr: Spot,
-    pub dlfc: Spot,
-    pub fac: Spot,
-    pub sdc: Spot,
-    pub sdci: Spot,
-    pub robm: Spot,
-    pub str0: Spot,
-    pub str1: Spot,
-    pub str2: Spot,
-    pub str3: Spot,
-    pub tist: Spot,
+    pub start: [usize; 11],
+    pub bits: [u32; 11],
 }
 
-// What one pass over a packet gives: the spots of its known items, and the offset behind its last whole item.
+// What one walk over a packet gives: the spots of its known items, and the offset behind its last whole item.
 pub struct Passed {
     pub spots: Spots,
     pub stop: usize,
 }
 
-// Four bytes as a number.
-fn number_of(name: &[u8]) -> u32
-    ensures { λ r. ⌜ r ≡ numberAt 4 (now (name .entry)) 0 ⌝ }
-{
-    fields::read32(name, 0)
-}
-
-// The spot of a name after an item of the name at x: the first one stays.
-fn note(old: Spot, x: Spot) -> Spot
-    ensures { λ r. ⌜ r ≡ noted old true x ⌝ }
-{
-    if old.start != 0 {
-        return old;
-    }
-    x
-}
-
-// All spots after an item at x whose name has this number. The table's names are tried in their order and left at the one found; an
-// unknown item is passed over.
-fn note_all(t: Spots, key: u32, x: Spot) -> Spots
-    ensures { λ r. ⌜ r ≡ notedAll t key x ⌝ }
-{
-    let mut r = t;
-    if key == number_of(b"*ptr") {
-        r.ptr = note(t.ptr, x);
-        return r;
-    }
-    if key == number_of(b"dlfc") {
-        r.dlfc = note(t.dlfc, x);
-        return r;
-    }
-    if key == number_of(b"fac_") {
-        r.fac = note(t.fac, x);
-        return r;
-    }
-    if key == number_of(b"sdc_") {
-        r.sdc = note(t.sdc, x);
-        return r;
-    }
-    if key == number_of(b"sdci") {
-        r.sdci = note(t.sdci, x);
-        return r;
-    }
-    if key == number_of(b"robm") {
-        r.robm = note(t.robm, x);
-        return r;
-    }
-    if key == number_of(b"str0") {
-        r.str0 = note(t.str0, x);
-        return r;
-    }
-    if key == number_of(b"str1") {
-        r.str1 = note(t.str1, x);
-        return r;
-    }
-    if key == number_of(b"str2") {
-        r.str2 = note(t.str2, x);
-        return r;
-    }
-    if key == number_of(b"str3") {
-        r.str3 = note(t.str3, x);
-        return r;
-    }
-    if key == number_of(b"tist") {
-        r.tist = note(t.tist, x);
-        return r;
-    }
-    r
-}
-
-fn nowhere() -> Spots
-    ensures { λ r. ⌜ r ≡ spotsOf [] ⌝ }
-{
-    let away = Spot { start: 0, bits: 0 };
-    Spots {
-        ptr: away,
-        dlfc: away,
-        fac: away,
-        sdc: away,
-        sdci: away,
-        robm: away,
-        str0: away,
-        str1: away,
-        str2: away,
-        str3: away,
-        tist: away,
-    }
-}
-
 pub fn find_all(s: &[u8]) -> Passed
     ensures { λ r. ⌜ (r ≡ passedOf (cutOf (now (s .entry)))) × (r .stop ≤ length (now (s .entry))) ⌝ }
 {
-    let mut spots = nowhere();
-    let mut at: usize = 0;
-    loop {
-        let n = items::size_at(s, at);
-        if n == 0 {
-            return Passed { spots, stop: at };
-        }
-        let x = Spot {
-            start: at + 8,
-            bits: fields::read32(s, at + 4),
-        };
-        spots = note_all(spots, fields::read32(s, at), x);
-        at += n;
+    let mut start = [0usize; 11];
+    let mut bits = [0u32; 11];
+    let stop = tag_spots::find_all(s, &NAMES, &SLOTS, &mut start, &mut bits);
+    let spots = Spots { start, bits };
+    Passed { spots, stop }
+}
+
+// The spot of a row; 0 and 0 where there is no such row.
+pub fn spot(t: Spots, row: usize) -> Spot
+    ensures { λ r. ⌜ r ≡ spotIn t row ⌝ }
+{
+    if 11 <= row {
+        return Spot { start: 0, bits: 0 };
     }
+    let start = t.start[row];
+    let bits = t.bits[row];
+    Spot { start, bits }
 }
 
 fn is_away(x: Spot) -> bool
@@ -176,22 +106,26 @@ fn not_sdci(x: Spot) -> bool
 pub fn missing(t: Spots) -> bool
     ensures { λ r. ⌜ r ≡ missingAt t ⌝ }
 {
-    is_away(t.ptr) | is_away(t.dlfc) | is_away(t.fac) | is_away(t.sdci) | is_away(t.robm)
+    is_away(spot(t, PTR))
+        | is_away(spot(t, DLFC))
+        | is_away(spot(t, FAC))
+        | is_away(spot(t, SDCI))
+        | is_away(spot(t, ROBM))
 }
 
 // 5: an item has a length that is not in the table.
 pub fn bad_length(t: Spots) -> bool
     ensures { λ r. ⌜ r ≡ badLengthAt t ⌝ }
 {
-    not_exactly(t.ptr, 64)
-        | not_exactly(t.dlfc, 32)
-        | not_exactly(t.fac, 72)
-        | not_sdc(t.sdc)
-        | not_sdci(t.sdci)
-        | not_exactly(t.robm, 8)
-        | not_whole(t.str0)
-        | not_whole(t.str1)
-        | not_whole(t.str2)
-        | not_whole(t.str3)
-        | not_exactly(t.tist, 64)
+    not_exactly(spot(t, PTR), 64)
+        | not_exactly(spot(t, DLFC), 32)
+        | not_exactly(spot(t, FAC), 72)
+        | not_sdc(spot(t, SDC))
+        | not_sdci(spot(t, SDCI))
+        | not_exactly(spot(t, ROBM), 8)
+        | not_whole(spot(t, STR0))
+        | not_whole(spot(t, STR1))
+        | not_whole(spot(t, STR2))
+        | not_whole(spot(t, STR3))
+        | not_exactly(spot(t, TIST), 64)
 }

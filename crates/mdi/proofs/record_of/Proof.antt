@@ -2,77 +2,87 @@ use Rattle.mdi.proofs.Ways.{record-is, time-spot}
 use borrow.Author.Needs.{needs}
 use Rattle.mdi.proofs.record_of.Statement.{statement}
 use Rattle.mdi.proofs.record_of.Tie as tie
-use Rattle.mdi.proofs.record_of.Reads as reads
-use Rattle.mdi.proofs.record_of.Lts as lts
-use Rattle.description.proofs.of_value.Reads as of-value-reads
-use Rattle.fac.proofs.of_value.Reads as of-value-reads′
-use Rattle.fields.proofs.read32.Reads as read32-reads
-use Rattle.items.proofs.value.Reads as value-reads
-use Rattle.mdi.proofs.first.Reads as first-reads
-use Rattle.mdi.proofs.time_of.Reads as time-of-reads
-use Rattle.sdc.proofs.of_value.Reads as of-value-reads′′
 
--- src/lib.rt:46:32
+spot-requires : tie.Need-spot-requires
+spot-requires c κs = search needs
+
 value-requires : tie.Need-value-requires
 value-requires c κs = search needs
 
--- src/lib.rt:46:9
 read32-requires : tie.Need-read32-requires
 read32-requires c κs = search needs
 
--- src/lib.rt:47:29
+spot-requires-2 : tie.Need-spot-requires-2
+spot-requires-2 c κs = search needs
+
 value-requires-2 : tie.Need-value-requires-2
 value-requires-2 c κs = search needs
 
--- src/lib.rt:47:9
 of-value-requires : tie.Need-of-value-requires
 of-value-requires c κs = search needs
 
--- src/lib.rt:48:29
+spot-requires-3 : tie.Need-spot-requires-3
+spot-requires-3 c κs = search needs
+
 value-requires-3 : tie.Need-value-requires-3
 value-requires-3 c κs = search needs
 
--- src/lib.rt:48:9
 of-value-requires-2 : tie.Need-of-value-requires-2
 of-value-requires-2 c κs = search needs
 
--- src/lib.rt:49:45
+spot-requires-4 : tie.Need-spot-requires-4
+spot-requires-4 c κs = search needs
+
 value-requires-4 : tie.Need-value-requires-4
 value-requires-4 c κs = search needs
 
--- src/lib.rt:49:9
 of-value-requires-3 : tie.Need-of-value-requires-3
 of-value-requires-3 c κs = search needs
 
--- src/lib.rt:50:28
+spot-requires-5 : tie.Need-spot-requires-5
+spot-requires-5 c κs = search needs
+
 value-requires-5 : tie.Need-value-requires-5
 value-requires-5 c κs = search needs
 
--- src/lib.rt:50:9
 first-requires : tie.Need-first-requires
 first-requires c κs = search needs
 
--- src/lib.rt:51:9
-time-of-requires : tie.Need-time-of-requires
-time-of-requires c κs = search time-spot
+spot-requires-6 : tie.Need-spot-requires-6
+spot-requires-6 c κs = search needs
 
--- src/lib.rt:42:1
+time-of-requires : tie.Need-time-of-requires
+time-of-requires c κs = let t = c .before .before .before .before .before .before .before .before .before .before .before .before .before .before .before .before .before in time-spot (t .args .s .now) _ (t .pre) _ (c .spot6 .ensures)
+
 returns : tie.Need-returns
-returns c = search record-is
+returns c =
+    let t = c .before .before .before .before .before .before .before .before .before .before .before .before .before .before .before .before .before .before in
+    record-is (t .args .s .now) _ (t .pre) _ _ _ _ _
+    (c .before .before .before .before .before .before .before .before .before .before .before .before .before .before .before .before .spot .ensures) (c .before .before .before .before .before .before .before .before .before .before .before .before .before .spot2 .ensures) (c .before .before .before .before .before .before .before .before .before .before .spot3 .ensures) (c .before .before .before .before .before .before .before .spot4 .ensures) (c .before .before .before .before .spot5 .ensures)
+    _ _ _ _ _
+    (c .before .before .before .before .before .before .before .before .before .before .before .before .before .before .before .value .ensures) (c .before .before .before .before .before .before .before .before .before .before .before .before .value2 .ensures) (c .before .before .before .before .before .before .before .before .before .value3 .ensures) (c .before .before .before .before .before .before .value4 .ensures) (c .before .before .before .value5 .ensures)
+    _ _ _ _ _ _
+    (c .before .before .before .before .before .before .before .before .before .before .before .before .before .before .read32 .ensures) (c .before .before .before .before .before .before .before .before .before .before .before .of-value .ensures) (c .before .before .before .before .before .before .before .before .of-value2 .ensures) (c .before .before .before .before .before .of-value3 .ensures) (c .before .before .first .ensures) (c .time-of .ensures)
 
 pub record-of-spec : {M : Type 1} → statement M
 record-of-spec =
     tie.close
     (tie.spec
+    spot-requires
     value-requires
     read32-requires
+    spot-requires-2
     value-requires-2
     of-value-requires
+    spot-requires-3
     value-requires-3
     of-value-requires-2
+    spot-requires-4
     value-requires-4
     of-value-requires-3
+    spot-requires-5
     value-requires-5
     first-requires
+    spot-requires-6
     time-of-requires
     returns)

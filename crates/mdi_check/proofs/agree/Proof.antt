@@ -3,39 +3,42 @@ use borrow.Author.Needs.{needs}
 use Rattle.mdi_check.proofs.agree.Statement.{statement}
 use Rattle.mdi_check.proofs.agree.Tie as tie
 
--- src/lib.rt:128:14
 element-copy-out-s0 : tie.Need-element-copy-out-s0
 element-copy-out-s0 c = search needs
 
--- src/lib.rt:129:14
 element-copy-out-s1 : tie.Need-element-copy-out-s1
 element-copy-out-s1 c = search needs
 
--- src/lib.rt:130:14
 element-copy-out-s2 : tie.Need-element-copy-out-s2
 element-copy-out-s2 c = search needs
 
--- src/lib.rt:131:14
 element-copy-out-s3 : tie.Need-element-copy-out-s3
 element-copy-out-s3 c = search needs
 
--- src/lib.rt:132:5
+spot-requires : tie.Need-spot-requires
+spot-requires c κs = search needs
+
+spot-requires-2 : tie.Need-spot-requires-2
+spot-requires-2 c κs = search needs
+
+spot-requires-3 : tie.Need-spot-requires-3
+spot-requires-3 c κs = search needs
+
+spot-requires-4 : tie.Need-spot-requires-4
+spot-requires-4 c κs = search needs
+
 fills-requires : tie.Need-fills-requires
 fills-requires c κs = search needs
 
--- src/lib.rt:133:11
 fills-requires-2 : tie.Need-fills-requires-2
 fills-requires-2 c κs = search needs
 
--- src/lib.rt:134:11
 fills-requires-3 : tie.Need-fills-requires-3
 fills-requires-3 c κs = search needs
 
--- src/lib.rt:135:11
 fills-requires-4 : tie.Need-fills-requires-4
 fills-requires-4 c κs = search needs
 
--- src/lib.rt:125:1
 returns : tie.Need-returns
 returns c = search agree-is
 
@@ -47,6 +50,10 @@ agree-spec =
     element-copy-out-s1
     element-copy-out-s2
     element-copy-out-s3
+    spot-requires
+    spot-requires-2
+    spot-requires-3
+    spot-requires-4
     fills-requires
     fills-requires-2
     fills-requires-3

@@ -4,86 +4,82 @@ use borrow.Author.Needs.{needs}
 use Rattle.mdi_check.proofs.check_contents.Statement.{statement}
 use Rattle.mdi_check.proofs.check_contents.Tie as tie
 
--- src/lib.rt:143:27
+spot-requires : tie.Need-spot-requires
+spot-requires c κs = search needs
+
 value-requires : tie.Need-value-requires
 value-requires c κs = search needs
 
--- src/lib.rt:143:9
 of-value-requires : tie.Need-of-value-requires
 of-value-requires c κs = search needs
 
--- src/lib.rt:144:8
 is-there-requires : tie.Need-is-there-requires
 is-there-requires c κs = search needs
 
--- src/lib.rt:144:26
 not-served-requires : tie.Need-not-served-requires
 not-served-requires c κs = search needs
 
--- src/lib.rt:145:9
 returns : tie.Need-returns
 returns c = search (no-9, served-at)
 
--- src/lib.rt:147:35
+spot-requires-2 : tie.Need-spot-requires-2
+spot-requires-2 c κs = search needs
+
 value-requires-2 : tie.Need-value-requires-2
 value-requires-2 c κs = search needs
 
--- src/lib.rt:147:9
 of-value-requires-2 : tie.Need-of-value-requires-2
 of-value-requires-2 c κs = search needs
 
--- src/lib.rt:148:8
 is-there-requires-2 : tie.Need-is-there-requires-2
 is-there-requires-2 c κs = search needs
 
--- src/lib.rt:148:27
 ill-formed-requires : tie.Need-ill-formed-requires
 ill-formed-requires c κs = search needs
 
--- src/lib.rt:149:9
 returns-2 : tie.Need-returns-2
 returns-2 c = search (no-10, served-at, description-at)
 
--- src/lib.rt:151:8
 is-there-requires-3 : tie.Need-is-there-requires-3
 is-there-requires-3 c κs = search needs
 
--- src/lib.rt:151:28
 agree-requires : tie.Need-agree-requires
 agree-requires c κs = search needs
 
--- src/lib.rt:152:9
 returns-3 : tie.Need-returns-3
 returns-3 c = search (no-11, served-at, description-at, streams-at)
 
--- src/lib.rt:139:1
 returns-4 : tie.Need-returns-4
 returns-4 c =
     let b3 = c .before in
     let d2 = b3 .before .before in
     let b2 = d2 .before in
     let v2 = b2 .before .before in
-    let d1 = v2 .before .before in
+    let d1 = v2 .before .before .before in
     let b1 = d1 .before in
     let v1 = b1 .before .before in
-    let pre = v1 .before .before .before .pre in
+    let x = v1 .before .before .spot .ensures in
+    let y = v2 .before .before .spot2 .ensures in
+    let pre = v1 .before .before .before .before .pre in
     no-0 _ _
-    (served-at _ _ pre _ _ _ _ (b1 .before .is-there .ensures) (v1 .before .value .ensures) (v1 .of-value .ensures) (b1 .not-served .ensures))
+    (served-at _ _ pre _ _ _ _ _ x (b1 .before .is-there .ensures) (v1 .before .value .ensures) (v1 .of-value .ensures) (b1 .not-served .ensures))
     (d1 .if1 .left) _
-    (description-at _ _ pre _ _ _ _ _ _ (v1 .before .value .ensures) (v1 .of-value .ensures) (v2 .before .value2 .ensures) (v2 .of-value2 .ensures) (b2 .before .is-there2 .ensures) (b2 .ill-formed .ensures))
+    (description-at _ _ pre _ _ _ _ _ _ _ _ x (v1 .before .value .ensures) (v1 .of-value .ensures) y (v2 .before .value2 .ensures) (v2 .of-value2 .ensures) (b2 .before .is-there2 .ensures) (b2 .ill-formed .ensures))
     (d2 .if2 .left) _
-    (streams-at _ _ pre _ _ _ _ (v2 .before .value2 .ensures) (v2 .of-value2 .ensures) (b3 .before .is-there3 .ensures) (b3 .agree .ensures))
+    (streams-at _ _ pre _ _ _ _ _ y (v2 .before .value2 .ensures) (v2 .of-value2 .ensures) (b3 .before .is-there3 .ensures) (b3 .agree .ensures))
     (c .if3 .left)
 
 pub check-contents-spec : {M : Type 1} → statement M
 check-contents-spec =
     tie.close
     (tie.spec
+    spot-requires
     value-requires
     of-value-requires
     is-there-requires
     not-served-requires
     returns
+    spot-requires-2
     value-requires-2
     of-value-requires-2
     is-there-requires-2

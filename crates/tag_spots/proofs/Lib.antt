@@ -1,0 +1,5 @@
+pub mod Rows
+pub mod Search
+pub mod Pass
+pub mod Walk
+pub mod Names
