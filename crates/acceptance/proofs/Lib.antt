@@ -3,5 +3,3 @@ pub mod Rejected
 pub mod RejectedCounts
 pub mod RejectedReader
 pub mod RejectedReceiver
-pub mod UniqueSteps
-pub mod UniqueText

@@ -50,7 +50,7 @@ fn put_text(input: &[u8], dst: &mut [u8], out: &mut [u8]) -> usize {
     if dst.len() < n {
         return answer::written(out, 1, 0, 0, dst);
     }
-    copy::put(first_of(&lent, n), dst, 0);
+    moves::put(first_of(&lent, n), dst, 0);
     answer::written(out, 0, 0, n as u64, dst)
 }
 

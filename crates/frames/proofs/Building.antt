@@ -11,8 +11,8 @@ use Rattle.laws.specs.Refuse.{refusedWith}
 use Rattle.laws.specs.Written.{written}
 use Rattle.laws.proofs.Refuse.{free}
 use Rattle.laws.proofs.Written.{write-next}
-use Rattle.copy.specs.Copy.{Puts}
-use Rattle.copy.proofs.Pieces.{puts-then}
+use Rattle.moves.specs.Moves.{Puts}
+use Rattle.moves.proofs.Pieces.{puts-then}
 use Rattle.description.specs.declared.Lengths.{Lengths}
 use Rattle.description.specs.declared.Description.{Description}
 use Rattle.description.specs.Answers.{handed}

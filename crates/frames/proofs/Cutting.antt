@@ -12,8 +12,8 @@ use lib.Seq.{length-take-le}
 use Rattle.laws.specs.Refuse.{refusedWith}
 use Rattle.laws.specs.Written.{written}
 use Rattle.laws.proofs.Refuse.{free}
-use Rattle.copy.specs.Copy.{nextFor, outputFor}
-use Rattle.copy.proofs.Pieces.{puts, puts-then}
+use Rattle.moves.specs.Moves.{placed, behind}
+use Rattle.moves.proofs.Pieces.{puts, puts-then}
 use Rattle.description.specs.declared.Description.{Description}
 use Rattle.places.specs.declared.Part.{Part}
 use Rattle.places.specs.declared.Places.{Places}
@@ -28,9 +28,9 @@ use Rattle.frames.proofs.Building.{all-used, sizes-four}
 
 -- two parts of a frame, copied one behind the other
 pub taken-out : (frame d e f : List ℕ) (x y : Part) (r : ℕ) → x .at + x .len ≤ length frame → y .at + y .len ≤ length frame → x .len + y .len ≤ length d
-    → (r ≡ nextFor (take (x .at + x .len - x .at) (drop (x .at) frame)) d 0) × (e ≡ outputFor (take (x .at + x .len - x .at) (drop (x .at) frame)) d 0)
+    → (r ≡ behind d 0 (take (x .at + x .len - x .at) (drop (x .at) frame))) × (e ≡ placed d 0 (take (x .at + x .len - x .at) (drop (x .at) frame)))
     → length e ≡ length d → (m : ℕ)
-    → (m ≡ nextFor (take (y .at + y .len - y .at) (drop (y .at) frame)) e r) × (f ≡ outputFor (take (y .at + y .len - y .at) (drop (y .at) frame)) e r)
+    → (m ≡ behind e r (take (y .at + y .len - y .at) (drop (y .at) frame))) × (f ≡ placed e r (take (y .at + y .len - y .at) (drop (y .at) frame)))
     → f ≡ written d 0 (bytesIn frame x ++ bytesIn frame y)
 unfolding bytesIn
 taken-out frame d e f x y r h k l p n m q =

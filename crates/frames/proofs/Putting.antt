@@ -12,11 +12,11 @@ use Rattle.description.specs.declared.Description.{Description}
 use Rattle.description.proofs.Tests.{four}
 use Rattle.frames.specs.Frames.{eachOf, joined}
 use Rattle.frames.specs.Ready.{slot, allA, allB}
-use Rattle.copy.specs.Copy.{nextFor, outputFor, Puts}
-use Rattle.copy.proofs.Pieces.{puts, puts-then, puts-same}
+use Rattle.moves.specs.Moves.{placed, behind, Puts}
+use Rattle.moves.proofs.Pieces.{puts, puts-then, puts-same}
 
 -- a piece of a known length that fits
-pub piece : (s d e : List ℕ) (at n r : ℕ) → length s ≡ n → at + n ≤ length d → r ≡ nextFor s d at → e ≡ outputFor s d at → (r ≡ at + n) × Puts d at s e r
+pub piece : (s d e : List ℕ) (at n r : ℕ) → length s ≡ n → at + n ≤ length d → r ≡ behind d at s → e ≡ placed d at s → (r ≡ at + n) × Puts d at s e r
 piece s d e at n r l h p q =
     let w = puts s d e at r (omega arith) p q in
     let x = w .end in

@@ -9,7 +9,7 @@ ghost use Prim.Native.Nat.{_+_, _-_, _≤_};
 ghost use lib.ListN.{length, take, drop, replicate};
 ghost use Rattle.laws.specs.Refuse.{refusedWith};
 ghost use Rattle.laws.specs.Written.{written};
-ghost use Rattle.copy.specs.Copy.{Puts};
+ghost use Rattle.moves.specs.Moves.{Puts};
 ghost use Rattle.frames.specs.Ready.{allA, allB, Ready};
 ghost use Rattle.frames.specs.Frames.{partsA, partsB, joined, bytesIn, somePair, other, less, sizes, buildTests, buildFor, frameFor, cutTests, cutFor, streamFor};
 
@@ -31,7 +31,7 @@ fn put_a(l: Lengths, s: &[u8], out: &mut [u8], at: usize) -> usize
     ensures { λ r. ⌜ (r ≡ at + l .a) × Puts (now (out .entry)) at (take (l .a) (now (s .entry))) (now (out .exit)) r ⌝ }
 {
     let a = l.a as usize;
-    copy::put(&s[..a], out, at)
+    moves::put(&s[..a], out, at)
 }
 
 // And its part B, all that follows.
@@ -40,7 +40,7 @@ fn put_b(l: Lengths, s: &[u8], out: &mut [u8], at: usize) -> usize
     ensures { λ r. ⌜ (r ≡ at + l .b) × Puts (now (out .entry)) at (drop (l .a) (now (s .entry))) (now (out .exit)) r ⌝ }
 {
     let a = l.a as usize;
-    copy::put(&s[a..], out, at)
+    moves::put(&s[a..], out, at)
 }
 
 // The parts A of all streams, from the front on.
@@ -223,10 +223,10 @@ fn take_out(x: Part, y: Part, frame: &[u8], out: &mut [u8])
 {
     let a = x.at;
     let e = a + x.len;
-    let at = copy::put(&frame[a..e], out, 0);
+    let at = moves::put(&frame[a..e], out, 0);
     let b = y.at;
     let f = b + y.len;
-    copy::put(&frame[b..f], out, at);
+    moves::put(&frame[b..f], out, at);
 }
 
 // Copies each stream, its part A and then its part B, to the front of its output; the padding is not looked at. Refused with 1 (a capacity

@@ -130,7 +130,7 @@ fn print_break(w: Walk, r: Record) -> bool {
     }
     let mut out = [0u8; 1024];
     let last = w.last;
-    let n = break_text::broken(last, r, &mut out);
+    let n = inspect_text::broken(last, r, &mut out);
     print(&out, n);
     n != 0
 }
@@ -200,7 +200,7 @@ fn walk_all(fd: i32, buffer: &mut [u8]) -> Walk {
 fn print_end(w: Walk) {
     let mut out = [0u8; 1024];
     let t = w.tally;
-    let n = summary_text::summary(t, &mut out);
+    let n = inspect_text::summary(t, &mut out);
     print(&out, n);
     if w.number != 0 {
         let k = inspect_text::refusal(w.number, w.place, &mut out);

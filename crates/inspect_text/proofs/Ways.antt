@@ -3,8 +3,8 @@ use Prim.Native.Nat.{ℕ, _+_, _≤_, _<_}
 use mathlib.Core.List.{List, _++_}
 use mathlib.Core.Path.{_≡_}
 use borrow.Author.Tests.{eq-eqb, ne-eqb, lt-ltb, le-ltb}
-use Rattle.copy.specs.Copy.{Puts}
-use Rattle.copy.proofs.Pieces.{puts-none}
+use Rattle.moves.specs.Moves.{Puts}
+use Rattle.moves.proofs.Pieces.{puts-none}
 use Rattle.line_text.specs.Decimal.{ascii, decimal}
 use Rattle.calendar.specs.declared.Date.{Date}
 use Rattle.description.specs.declared.Lengths.{Lengths}

@@ -4,7 +4,7 @@ use mathlib.Core.List.{List, [], _∷_, _++_}
 use lib.Dec.{ltb, eqb}
 use lib.ListN.{getD}
 use Rattle.laws.specs.Pick.{pick}
-use Rattle.copy.specs.Copy.{Puts}
+use Rattle.moves.specs.Moves.{Puts}
 use Rattle.line_text.specs.Decimal.{ascii, decimal}
 use Rattle.stamp_text.specs.Stamp.{since, timeText}
 use Rattle.calendar.specs.Calendar.{DateOf}

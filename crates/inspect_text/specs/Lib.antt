@@ -1,1 +1,3 @@
 pub mod Inspect
+pub mod Break
+pub mod Summary

@@ -8,8 +8,8 @@ use native.Mathlib.Omega.{arith}
 use borrow.Author.Tests.{eq-eqb, ne-eqb}
 use lib.ListN.{length, getD, take, drop, length-drop}
 use lib.Seq.{getD-drop}
-use Rattle.copy.specs.Copy.{Puts}
-use Rattle.copy.proofs.Pieces.{puts-none, puts-then, puts-same}
+use Rattle.moves.specs.Moves.{Puts}
+use Rattle.moves.proofs.Pieces.{puts-none, puts-then, puts-same}
 use Rattle.places.specs.declared.Part.{Part}
 use Rattle.places.specs.Parts.{noPart}
 use Rattle.line_text.specs.Decimal.{decimal}

@@ -13,8 +13,8 @@ use Rattle.laws.specs.Written.{written}
 use Rattle.laws.proofs.Refuse.{free}
 use Rattle.laws.proofs.Written.{written-length}
 use Rattle.io.specs.Counts.{Counts}
-use Rattle.copy.specs.Copy.{Puts}
-use Rattle.copy.proofs.Pieces.{puts-same}
+use Rattle.moves.specs.Moves.{Puts}
+use Rattle.moves.proofs.Pieces.{puts-same}
 use Rattle.description.specs.declared.Description.{Description}
 use Rattle.places.specs.declared.Places.{Places}
 use Rattle.description.specs.Bytes.{describedBy}

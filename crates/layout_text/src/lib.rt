@@ -7,7 +7,7 @@ ghost use Prim.Native.Nat.{_+_, _≤_};
 ghost use lib.ListN.{length, take, drop};
 ghost use Rattle.laws.specs.Written.{written};
 ghost use Rattle.io.specs.Counts.{Counts};
-ghost use Rattle.copy.specs.Copy.{Puts};
+ghost use Rattle.moves.specs.Moves.{Puts};
 ghost use Rattle.line_text.specs.Decimal.{decimal};
 ghost use Rattle.layout_text.specs.Text.{lineOf, partLines, padding, linesOf, capacityIn, numberFor, textOf};
 

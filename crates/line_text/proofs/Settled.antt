@@ -6,12 +6,8 @@ use mathlib.Core.Path.{_≡_, sym, ap₂, _∙_}
 use lib.ListN.{length}
 use Rattle.laws.specs.Settle.{Settles}
 use Rattle.line_text.specs.Line.{Placed}
+use Rattle.line_text.proofs.Room.{placed-once}
 use Rattle.line_text.specs.Decimal.{decimal, numberLine, pairLine}
-
--- a text at an offset, where it has room; an outcome is the offset behind it and the buffer after the call
-pub placed-once : (room at bound : ℕ) (text before : List ℕ) → (x y : ℕ × List ℕ) → (x .0 ≤ bound) × Placed room before at text (x .1) (x .0)
-    → (y .0 ≤ bound) × Placed room before at text (y .1) (y .0) → x ≡ y
-placed-once room at bound text before x y p q = ap₂ (λ n s. (n, s)) (p .1 .end ∙ sym (q .1 .end)) (p .1 .buffer ∙ sym (q .1 .buffer))
 
 pub word : Settles (λ (i : List ℕ × List ℕ × ℕ) (o : ℕ × List ℕ). (o .0 ≤ i .2 + length (i .0)) × Placed (length (i .0)) (i .1) (i .2) (i .0) (o .1) (o .0))
 word i x y p q = placed-once (length (i .0)) (i .2) (i .2 + length (i .0)) (i .0) (i .1) x y p q

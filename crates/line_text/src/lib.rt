@@ -11,7 +11,7 @@ ghost use Rattle.line_text.specs.Line.{Placed};
 pub fn word(text: &[u8], out: &mut [u8], at: usize) -> usize
     ensures { λ r. ⌜ (r ≤ at + length (now (text .entry))) × Placed (length (now (text .entry))) (now (out .entry)) at (now (text .entry)) (now (out .exit)) r ⌝ }
 {
-    copy::put(text, out, at)
+    moves::put(text, out, at)
 }
 
 // A word and a number in decimal behind it. The room is that of the longest number, twenty digits, whatever the number.
@@ -31,8 +31,8 @@ pub fn named(text: &[u8], n: u64, out: &mut [u8], at: usize) -> usize
     }
     let mut digits = [0u8; 20];
     let k = io::decimal(n, &mut digits);
-    let a = copy::put(text, out, at);
-    copy::put(&digits[..k], out, a)
+    let a = moves::put(text, out, at);
+    moves::put(&digits[..k], out, a)
 }
 
 // A word, a number in decimal and the end of the line.

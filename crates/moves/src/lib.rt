@@ -2,7 +2,7 @@
 // written.
 ghost use mathlib.Core.Path.{_≡_};
 ghost use lib.ListN.{replicate};
-ghost use Rattle.moves.specs.Moves.{placed, pulled};
+ghost use Rattle.moves.specs.Moves.{placed, behind, pulled};
 
 // Copies all of src into dst from index at on.
 pub fn copy(src: &[u8], dst: &mut [u8], at: usize)
@@ -19,6 +19,24 @@ pub fn copy(src: &[u8], dst: &mut [u8], at: usize)
         dst[at + j] = src[j];
         j += 1;
     }
+}
+
+// Copies the bytes to the offset, and answers the offset behind them. Where they do not all fit there, nothing is written and the
+// answer is the offset itself.
+pub fn put(src: &[u8], dst: &mut [u8], at: usize) -> usize
+    ensures answer { λ r. ⌜ r ≡ behind (now (dst .entry)) at (now (src .entry)) ⌝ }
+    ensures memory { λ _. ⌜ now (dst .exit) ≡ placed (now (dst .entry)) at (now (src .entry)) ⌝ }
+{
+    // The offset may be any number, so the sum is formed only once it is known to fit.
+    let room = dst.len();
+    if room < src.len() {
+        return at;
+    }
+    if room - src.len() < at {
+        return at;
+    }
+    copy(src, dst, at);
+    at + src.len()
 }
 
 // n zeros from index at on.

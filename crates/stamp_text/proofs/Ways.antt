@@ -3,9 +3,9 @@ use Prim.Native.Nat.{ℕ, _-_, _≤_, _<_}
 use mathlib.Core.List.{List}
 use mathlib.Core.Path.{_≡_, refl, subst}
 use borrow.Author.Tests.{lt-ltb, le-ltb}
-use Rattle.copy.specs.Copy.{Puts}
+use Rattle.moves.specs.Moves.{Puts}
 use Rattle.line_text.specs.Decimal.{ascii}
-use Rattle.date_text.specs.Date.{dateText}
+use Rattle.stamp_text.specs.Date.{dateText}
 use Rattle.calendar.specs.Calendar.{DateOf}
 use Rattle.calendar.specs.declared.Date.{Date}
 use Rattle.clock.specs.declared.Stamp.{Stamp}

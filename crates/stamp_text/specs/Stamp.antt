@@ -4,7 +4,7 @@ use mathlib.Core.List.{List, _++_}
 use lib.Dec.{ltb}
 use Rattle.laws.specs.Pick.{pick}
 use Rattle.line_text.specs.Decimal.{ascii, decimal}
-use Rattle.date_text.specs.Date.{dateText}
+use Rattle.stamp_text.specs.Date.{dateText}
 use Rattle.calendar.specs.declared.Date.{Date}
 use Rattle.clock.specs.declared.Stamp.{Stamp}
 use Rattle.record.specs.declared.Time.{Time}

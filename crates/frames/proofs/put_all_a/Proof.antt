@@ -4,7 +4,7 @@ use mathlib.Core.Path.{_≡_, _∙_}
 use native.Mathlib.Nat.{zero-add}
 use lib.ListN.{length, take, length-map}
 use borrow.Author.Needs.{needs}
-use Rattle.copy.proofs.Pieces.{puts-same}
+use Rattle.moves.proofs.Pieces.{puts-same}
 use Rattle.frames.proofs.Putting.{join-four, four-put, room-a}
 use Rattle.frames.proofs.put_all_a.Statement.{statement}
 use Rattle.frames.proofs.put_all_a.Tie as tie

@@ -3,7 +3,7 @@ use lib.Dec.{lit<}
 use mathlib.Core.Path.{_≡_}
 use lib.ListN.{length, drop, length-map}
 use borrow.Author.Needs.{needs}
-use Rattle.copy.proofs.Pieces.{puts-same}
+use Rattle.moves.proofs.Pieces.{puts-same}
 use Rattle.frames.proofs.Putting.{join-four, four-put, room-b}
 use Rattle.frames.proofs.put_all_b.Statement.{statement}
 use Rattle.frames.proofs.put_all_b.Tie as tie

@@ -4,7 +4,7 @@ use Prim.Native.Nat.{_-_}
 use native.Mathlib.Omega.{arith}
 use lib.ListN.{length, take, drop, length-drop}
 use borrow.Author.Needs.{needs}
-use Rattle.copy.proofs.Pieces.{puts-same}
+use Rattle.moves.proofs.Pieces.{puts-same}
 use Rattle.frames.proofs.Putting.{piece, all-behind}
 use Rattle.frames.proofs.put_b.Statement.{statement}
 use Rattle.frames.proofs.put_b.Tie as tie

@@ -3,7 +3,7 @@ use native.Mathlib.Omega.{arith}
 use Rattle.inspect_text.specs.Inspect.{refusedText}
 use Rattle.stamp_text.proofs.Ways.{dated-by}
 use Rattle.inspect_text.proofs.Ways.{line-refused, line-read}
-use Rattle.copy.proofs.Pieces.{puts-then}
+use Rattle.moves.proofs.Pieces.{puts-then}
 use Rattle.line_text.proofs.Room.{fit}
 use borrow.Author.Needs.{needs}
 use Rattle.inspect_text.proofs.line.Statement.{statement}

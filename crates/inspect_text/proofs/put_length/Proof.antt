@@ -5,7 +5,7 @@ use Prim.Native.Nat.{ℕ, _+_}
 use mathlib.Core.List.{_++_}
 use Rattle.line_text.specs.Decimal.{ascii, decimal}
 use Rattle.inspect_text.proofs.Ways.{length-none, length-some}
-use Rattle.copy.proofs.Pieces.{puts-same}
+use Rattle.moves.proofs.Pieces.{puts-same}
 use Rattle.line_text.proofs.Room.{fit}
 use borrow.Author.Needs.{needs}
 use Rattle.inspect_text.proofs.put_length.Statement.{statement}

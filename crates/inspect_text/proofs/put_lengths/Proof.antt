@@ -1,7 +1,7 @@
 -- `inspect_text::put_lengths` meets its contract. Assumes nothing.
 use native.Mathlib.Omega.{arith}
 use Rattle.inspect_text.specs.Inspect.{lengthsText}
-use Rattle.copy.proofs.Pieces.{puts-then}
+use Rattle.moves.proofs.Pieces.{puts-then}
 use borrow.Author.Needs.{needs}
 use Rattle.inspect_text.proofs.put_lengths.Statement.{statement}
 use Rattle.inspect_text.proofs.put_lengths.Tie as tie

@@ -1,7 +1,7 @@
 -- `layout_text::put_layout` meets its contract. Assumes nothing.
 use native.Mathlib.Omega.{arith}
 use Rattle.layout_text.specs.Text.{linesOf}
-use Rattle.copy.proofs.Pieces.{puts-then}
+use Rattle.moves.proofs.Pieces.{puts-then}
 use Rattle.line_text.proofs.Room.{fit}
 use borrow.Author.Needs.{needs}
 use Rattle.layout_text.proofs.put_layout.Statement.{statement}

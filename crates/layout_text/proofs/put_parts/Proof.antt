@@ -5,8 +5,8 @@ use native.Mathlib.Omega.{arith}
 use lib.ListN.{length, take, drop}
 use borrow.Author.Needs.{needs}
 use Rattle.description.proofs.Tests.{sized}
-use Rattle.copy.proofs.Pieces.{puts-same}
-use Rattle.copy.specs.Copy.{Puts}
+use Rattle.moves.proofs.Pieces.{puts-same}
+use Rattle.moves.specs.Moves.{Puts}
 use Rattle.layout_text.specs.Text.{partLines}
 use Rattle.layout_text.proofs.Lines.{parts-none, parts-more}
 use Rattle.layout_text.proofs.put_parts.Statement.{statement}

@@ -1,7 +1,7 @@
 -- `line_text::line` meets its contract. Assumes nothing.
 use native.Mathlib.Omega.{arith}
 use Rattle.line_text.proofs.Room.{no-room, placed, fit}
-use Rattle.copy.proofs.Pieces.{puts-then}
+use Rattle.moves.proofs.Pieces.{puts-then}
 use borrow.Author.Needs.{needs}
 use Rattle.line_text.proofs.line.Statement.{statement}
 use Rattle.line_text.proofs.line.Tie as tie

@@ -1,7 +1,7 @@
 -- `stamp_text::put_stamp` meets its contract. Assumes nothing.
 use native.Mathlib.Omega.{arith}
 use Rattle.stamp_text.specs.Stamp.{stampText}
-use Rattle.copy.proofs.Pieces.{puts-then}
+use Rattle.moves.proofs.Pieces.{puts-then}
 use Rattle.line_text.proofs.Room.{fit}
 use borrow.Author.Needs.{needs}
 use Rattle.stamp_text.proofs.put_stamp.Statement.{statement}

@@ -23,15 +23,15 @@ returns c =
     let p0 = fit (omega arith) (c .before .before .word .ensures .1) in
     (omega arith, utc-none _ _ (c .before .before .before .before .before .if1 .taken) p0)
 
-date-requires : tie.Need-date-requires
-date-requires c κs = search needs
+put-date-requires : tie.Need-put-date-requires
+put-date-requires c κs = search needs
 
 same-length-2 : tie.Need-same-length-2
 same-length-2 c = search needs
 
 returns-2 : tie.Need-returns-2
 returns-2 c =
-    let p0 = fit (omega arith) (c .before .before .date .ensures .1) in
+    let p0 = c .before .before .put-date .ensures .1 in
     (omega arith, utc-some _ _ (c .before .before .before .before .if1 .left) p0)
 
 pub put-utc-spec : {M : Type 1} → statement M
@@ -43,6 +43,6 @@ put-utc-spec =
     word-requires
     same-length
     returns
-    date-requires
+    put-date-requires
     same-length-2
     returns-2)
