@@ -2,3 +2,4 @@ pub mod Days
 pub mod Examples
 pub mod Parts
 pub mod Settled
+pub mod Dates

@@ -1,5 +1,6 @@
 -- A recording of any length may be walked through a window of fixed length: where the window reaches 65,532 bytes on, or to the end of the
--- file, what stands at its front is what stands there in the file, with the window's offset added. Assumes nothing.
+-- file, what stands at its front is what stands there in the file, with the window's offset added, and its packet has the same bytes. Assumes
+-- nothing.
 use Prim.Native.Nat.{ℕ, _+_, _-_, _≤_, _<_}
 use mathlib.Core.Bool.{Bool, true, false}
 use mathlib.Core.Path.{_≡_, refl, sym, ap, _∙_}
@@ -9,16 +10,16 @@ use native.Mathlib.Nat.{add-zero}
 use native.Mathlib.Omega.{arith}
 use borrow.Author.Tests.{eqb-true, eqb-false, leb-true, leb-false, ltb-true, ltb-false}
 use lib.Dec.{eqb, leb, ltb, lit≤}
-use lib.ListN.{length, take, drop, length-drop}
-use lib.Seq.{take-take, length-take-le, take-all}
+use lib.ListN.{length, take, drop, length-drop, take-append-drop}
+use lib.Seq.{take-take, length-take-le, take-all, drop-drop, drop-append-le, take-append-le}
 use Rattle.laws.specs.Big.{bigOf, numberAt}
 use Rattle.laws.specs.Limits.{longest}
 use Rattle.laws.specs.Pick.{pick}
 use Rattle.fields.proofs.Reading.{number-in}
 use Rattle.recording.specs.declared.Step.{Step}
 use Rattle.recording.specs.declared.Step.the-variants.{Entry, End, Refused}
-use Rattle.recording.specs.Recording.{stepFor}
-use Rattle.recording.proofs.Answers.{step-end, step-past, step-long, step-cut, step-entry}
+use Rattle.recording.specs.Recording.{stepFor, packetIn, packetFor}
+use Rattle.recording.proofs.Answers.{step-end, step-past, step-long, step-cut, step-entry, entry-means}
 
 -- an answer about a window that begins at k, as one about the file: 2 has a place, 1 has none
 abbrev pub moved : ℕ → Step → Step
@@ -90,3 +91,25 @@ window-step file k m h far =
     let r = reach m d far in
     same-step file (take m d) k (omega (arith, r .0)) (⊎-elim (λ f. inl f) (λ f. inr (omega arith)) (r .2))
     (λ l. number-in 4 (take m d) 0 l ∙ ap bigOf (take-take 4 m d (omega (arith, r .1))) ∙ sym (number-in 4 file k (omega (arith, r .0))))
+
+-- and the packet there
+pub window-packet : (file : List ℕ) (k m : ℕ) → k ≤ length file → (longest + 4 ≤ m) ⊎ (length (drop k file) ≤ m)
+    → packetFor (take m (drop k file)) 0 ≡ packetFor file k
+unfolding packetFor packetIn
+window-packet file k m h far = go (stepFor w 0) refl ∙ ap (packetIn file) (window-step file k m h far)
+  where
+    w : List ℕ
+    w = take m (drop k file)
+
+    go : (s : Step) → stepFor w 0 ≡ s → packetIn w s ≡ packetIn file (moved k s)
+    go (Entry start len next) e =
+        let i = entry-means w 0 start len next e in
+        let l : length (drop start w) ≡ length w - start = length-drop start w in
+        sym
+        (ap (take len)
+        (sym (drop-drop start k file)
+        ∙ ap (drop start) (sym (take-append-drop m (drop k file)))
+        ∙ drop-append-le start w (drop m (drop k file)) (omega (arith, i .ends, i .within)))
+        ∙ take-append-le len (drop start w) (drop m (drop k file)) (omega (arith, i .ends, i .within)))
+    go End e = refl
+    go (Refused number place) e = refl
