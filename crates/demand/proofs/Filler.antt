@@ -6,7 +6,7 @@ use mathlib.Core.Bool.{Bool, true, false}
 use native.Mathlib.Omega.{arith}
 use borrow.Author.Tests.{le-leb, eqb-true}
 use lib.Dec.{eqb, leb, lit<}
-use lib.ListN.{length, getD, take, drop, replicate}
+use lib.ListN.{length, getD, take, drop, replicate, length-replicate, replicate-append-replicate}
 use lib.Seq.{drop-nil}
 use Rattle.laws.specs.Pick.{pick}
 use Rattle.laws.specs.Written.{written}
@@ -29,17 +29,9 @@ use Rattle.demand.proofs.Packets.{of-append, numbered-append, numbered-
 use Rattle.demand.proofs.Rows.{chunkAt, rowChunks, frame-filler}
 
 -- ---- lists of one thing
-length-same : (n : ℕ) (c : Chunk) → length (replicate n c) ≡ n
-length-same zero c = refl
-length-same (suc n) c = ap suc (length-same n c)
-
 same-more : (n : ℕ) (c : Chunk) → replicate n c ++ (c ∷ []) ≡ replicate (suc n) c
 same-more zero c = refl
 same-more (suc n) c = ap (λ (l : List Chunk). c ∷ l) (same-more n c)
-
-same-add : (n m : ℕ) (c : Chunk) → replicate n c ++ replicate m c ≡ replicate (n + m) c
-same-add zero m c = let z : 0 + m ≡ m = omega arith in ap (λ (k : ℕ). replicate k c) (sym z)
-same-add (suc n) m c = let z : suc n + m ≡ suc (n + m) = omega arith in ap (λ (l : List Chunk). c ∷ l) (same-add n m c) ∙ ap (λ (k : ℕ). replicate k c) (sym z)
 
 -- ---- a row of a queue that has no unit
 module _ (p i : ℕ) where
@@ -124,13 +116,13 @@ run-filled p (a ∷ acts) x st k =
     of-append p 3 (sentBy a x) (sentIn acts y)
     ∙ ap₂ (λ (c d : List Packet). c ++ d) (f .sent)
     (run-filled p acts y (st .1) (after-good p a x (st .0) k)
-    ∙ ap (λ (j : ℕ). numbered 3 j (replicate m nothing)) (f .index ∙ ap (λ (l : ℕ). indexAfter l i) (sym (length-same n nothing))))
+    ∙ ap (λ (j : ℕ). numbered 3 j (replicate m nothing)) (f .index ∙ ap (λ (l : ℕ). indexAfter l i) (sym (length-replicate {A = Chunk} n nothing))))
     ∙ sym (numbered-append 3 i (replicate n nothing) (replicate m nothing))
-    ∙ ap (numbered 3 i) (same-add n m nothing)
+    ∙ ap (numbered 3 i) (replicate-append-replicate {A = Chunk} n m nothing)
 
 pub filler-null : (p : ℕ) (acts : List Act) (x : Desk) → Steady p acts → Good p x
     → ofId p 3 (sentIn acts x) ≡ numbered 3 (indexOf (x .state) 3) (replicate (length (ofId p 3 (sentIn acts x))) nothing)
 filler-null p acts x st k =
     let e = run-filled p acts x st k in
-    let n : length (ofId p 3 (sentIn acts x)) ≡ numbers acts x = ap length e ∙ numbered-length 3 (indexOf (x .state) 3) _ ∙ length-same (numbers acts x) nothing in
+    let n : length (ofId p 3 (sentIn acts x)) ≡ numbers acts x = ap length e ∙ numbered-length 3 (indexOf (x .state) 3) _ ∙ length-replicate {A = Chunk} (numbers acts x) nothing in
     e ∙ ap (λ (m : ℕ). numbered 3 (indexOf (x .state) 3) (replicate m nothing)) (sym n)

@@ -10,6 +10,7 @@ use lib.ListN.{length}
 use Rattle.laws.specs.Pick.{pick}
 use Rattle.hand.specs.Hand.{noThree}
 use Rattle.queue.specs.Queue.{addUp, same}
+use Rattle.queue.proofs.Sums.{addUp-append}
 use Rattle.queue.specs.Send.{Turn, loaded, framed, shares}
 use Rattle.sender.specs.Load.{loadNumber, loadFor, storeFor}
 use Rattle.sender.specs.Frame.{frameNumber, frameFor, storeAfter}
@@ -78,11 +79,6 @@ shares-append [] h′ = omega arith
 shares-append (loaded x ∷ h) h′ = shares-append h h′
 shares-append (framed t k ∷ h) h′ = omega (arith, shares-append h h′)
 
-sum-append : (xs ys : List ℕ) → addUp same (xs ++ ys) ≡ addUp same xs + addUp same ys
-unfolding addUp
-sum-append [] ys = omega arith
-sum-append (x ∷ xs) ys = omega (arith, sum-append xs ys)
-
 shares-one : (id : ℕ) (a : Act) (x : Desk) (b : Bool) → eqb (numberOf a x) 0 ≡ b → addUp same (pick b (shareFor id a (answer a x)) []) ≡ shares (turnOf id a x)
 unfolding shareFor turnOf numberOf shares addUp
 shares-one id (load g j unit) x true e = rw e (go (eqb id j))
@@ -102,7 +98,7 @@ shares-seen id (a ∷ acts) x =
     let here = pick (eqb (answer a x .number) 0) (shareFor id a (answer a x)) [] in
     let e : addUp same here ≡ shares (turnOf id a x) =
     ap (λ (n : ℕ). addUp same (pick (eqb n 0) (shareFor id a (answer a x)) [])) (number-is a x) ∙ shares-one id a x (eqb (numberOf a x) 0) refl in
-    sum-append here (sharesOf id (log acts y))
+    addUp-append same here (sharesOf id (log acts y))
     ∙ ap₂ (λ (u v : ℕ). u + v) e (shares-seen id acts y)
     ∙ sym (shares-append (turnOf id a x) (history id acts y))
 

@@ -2,7 +2,7 @@
 -- Assumes nothing.
 use Prim.Native.Nat.{ℕ, _+_, _-_, _≤_}
 use mathlib.Core.Path.{_≡_, refl, sym, ap, ap₂, _∙_, subst}
-use mathlib.Core.List.{List, [], _∷_, _++_, append-assoc, map}
+use mathlib.Core.List.{List, [], _∷_, _++_, append-assoc, map, map-append}
 use mathlib.Core.Bool.{Bool, false, not, _&&_}
 use native.Mathlib.Omega.{arith}
 use borrow.Author.Tests.{eq-eqb}
@@ -13,6 +13,7 @@ use Rattle.laws.specs.Pick.{pick}
 use Rattle.hand.specs.declared.Settings.{Settings}
 use Rattle.hand.proofs.Allowed.{allowed}
 use Rattle.queue.specs.Queue.{addUp, packets}
+use Rattle.queue.proofs.Sums.{addUp-append}
 use Rattle.queue.specs.Send.{waits, AllPos, got, shares}
 use Rattle.row.specs.Content.{begunIn, rests, begunAfter, chunks}
 use Rattle.sender.specs.State.{queueOf, indexOf}
@@ -29,15 +30,6 @@ use Rattle.demand.proofs.Calls.{load-left}
 use Rattle.demand.proofs.Demand.{pieces, sent-by-shares}
 use Rattle.demand.proofs.Mirror.{content-lengths}
 use Rattle.demand.proofs.Drained.{whole-behind}
-
-lengths-append : (us vs : List (List ℕ)) → map length (us ++ vs) ≡ map length us ++ map length vs
-lengths-append [] vs = refl
-lengths-append (u ∷ us) vs = ap (λ (l : List ℕ). length u ∷ l) (lengths-append us vs)
-
-waits-append : (p : ℕ) (xs ys : List ℕ) → waits p (xs ++ ys) ≡ waits p xs + waits p ys
-unfolding waits addUp
-waits-append p [] ys = omega arith
-waits-append p (x ∷ xs) ys = omega (arith, waits-append p xs ys)
 
 module _ (p : ℕ) (y : Desk) (k : Good p y) (g : Settings) (id : ℕ) (unit : List ℕ) (e : g .p ≡ p) (z : numberOf (load g id unit) y ≡ 0) where
   abbrev y′ : Desk
@@ -67,8 +59,8 @@ module _ (p : ℕ) (y : Desk) (k : Good p y) (g : Settings) (id : ℕ) (unit : L
   waits-then : waitingIn p id y′ ≡ waits p (map length vs) + packets p (length unit)
   unfolding waitingIn waits addUp
   waits-then =
-      ap (waits p) (sym (content-lengths p y′ after-this id (accepted .id-in)) ∙ ap (map length) held ∙ lengths-append vs (unit ∷ []))
-      ∙ waits-append p (map length vs) (length unit ∷ [])
+      ap (waits p) (sym (content-lengths p y′ after-this id (accepted .id-in)) ∙ ap (map length) held ∙ map-append length vs (unit ∷ []))
+      ∙ addUp-append (packets p) (map length vs) (length unit ∷ [])
       ∙ omega arith
 
   pos : AllPos (map length vs)
