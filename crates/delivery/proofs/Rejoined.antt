@@ -1,16 +1,15 @@
 -- A receiver that missed packets, in whatever state: once all packets of a unit come, with indexes that follow one another, the unit is
 -- delivered whole. Assumes nothing.
-use Prim.Native.Nat.{ℕ, zero, suc, _-_, _≤_}
+use Prim.Native.Nat.{ℕ, zero, suc, _+_, _-_, _≤_}
 use mathlib.Core.Path.{_≡_, refl, sym, ap, _∙_, subst}
 use mathlib.Core.List.{List, [], _∷_}
 use mathlib.Core.Bool.{Bool, true, false, _&&_, _||_, true≢false}
 use native.Mathlib.Omega.{arith}
 use borrow.Author.Tests.{ltb-false}
 use lib.Dec.{ltb}
-use lib.ListN.{length, take, length-map, List·getD-eq-default}
+use lib.ListN.{length, take, List·getD-eq-default}
 use Rattle.queue.specs.Queue.{addUp, packets}
-use Rattle.queue.specs.Send.{send, waits}
-use Rattle.queue.proofs.Sending.{pos-send, waits-send, none-waits}
+use Rattle.queue.specs.Send.{waits}
 use Rattle.row.specs.Content.{chunks, rests}
 use Rattle.receiver.specs.declared.Link.{Link}
 use Rattle.receiver.specs.Link.{brokenLink, noLink}
@@ -18,7 +17,9 @@ use Rattle.receiver.specs.Receiver.{linkOf, broken}
 use Rattle.delivery.specs.Delivered.{Ear, lineAt, deliveredOf}
 use Rattle.demand.specs.Bytes.{ofId, numbered}
 use Rattle.demand.specs.Stream.{Fair}
-use Rattle.demand.proofs.Chunks.{rests-lengths}
+use Rattle.demand.specs.Condition.{piecesOf}
+use Rattle.demand.proofs.Drained.{drained-none}
+use Rattle.delivery.specs.Delivery.{Rejoined}
 use Rattle.delivery.specs.Lines.{unitsThrough}
 use Rattle.delivery.proofs.Hear.{LinkOk, EarOk}
 use Rattle.delivery.proofs.Lines.{heard}
@@ -44,7 +45,7 @@ link-ok l e =
 none-ok : LinkOk noLink
 none-ok = record { index = omega arith; fits = λ e. omega arith }
 
-pub ear-ok : (e : Ear) → length (e .receiver .link) ≡ 4 → broken (e .receiver) ≡ false → length (e .buffer) ≡ 16384 → EarOk e
+ear-ok : (e : Ear) → length (e .receiver .link) ≡ 4 → broken (e .receiver) ≡ false → length (e .buffer) ≡ 16384 → EarOk e
 unfolding broken
 ear-ok e four fine size = record { four = four; links = links; size = size }
   where
@@ -59,18 +60,22 @@ ear-ok e four fine size = record { four = four; links = links; size = size }
     links (suc (suc (suc (suc j)))) = subst LinkOk (sym (List·getD-eq-default (e .receiver .link) noLink {n = suc (suc (suc (suc j)))} (omega arith))) none-ok
 
 -- ---- units one behind the other, from the first packet of the first on
-module _ (p id i : ℕ) (e : Ear) (ss : List (List ℕ)) (o : EarOk e) where
-  pub units-from-any : (n : ℕ) (us : List (List ℕ)) → Fair us → ofId p id ss ≡ numbered id i (chunks p n false us)
+module _ (p id : ℕ) (e : Ear) (four : length (e .receiver .link) ≡ 4) (fine : broken (e .receiver) ≡ false) (size : length (e .buffer) ≡ 16384) where
+  units-from-any : (ss : List (List ℕ)) (i n : ℕ) (us : List (List ℕ)) → Fair us → ofId p id ss ≡ numbered id i (chunks p n false us)
       → deliveredOf p id e ss ≡ take (length us - length (rests p n us)) us
-  units-from-any n us f q = heard p id e ss o .units ∙ ap (unitsThrough (lineAt e id)) q ∙ whole-from-any p id n us i (lineAt e id) f
+  units-from-any ss i n us f q =
+      heard p id e ss (ear-ok e four fine size) .units ∙ ap (unitsThrough (lineAt e id)) q ∙ whole-from-any p id n us i (lineAt e id) f
 
   -- all packets of one unit
-  pub unit-from-any : (u : List ℕ) → 1 ≤ p → 1 ≤ length u → length u ≤ 4096 → ofId p id ss ≡ numbered id i (chunks p (packets p (length u)) false (u ∷ []))
+  unit-from-any : (ss : List (List ℕ)) (i : ℕ) (u : List ℕ) → 1 ≤ p → 1 ≤ length u → length u ≤ 4096 → ofId p id ss ≡ numbered id i (piecesOf p u)
       → deliveredOf p id e ss ≡ u ∷ []
   unfolding waits addUp
-  unit-from-any u hp lo hi q =
+  unit-from-any ss i u hp lo hi q =
       let n = packets p (length u) in
-      let w : waits p (send p n (length u ∷ [])) ≡ 0 = waits-send p hp n (length u ∷ []) (lo, tt) ∙ omega arith in
-      let z : send p n (length u ∷ []) ≡ [] = none-waits p hp (send p n (length u ∷ [])) (pos-send p hp n (length u ∷ []) (lo, tt)) w in
-      let l : length (rests p n (u ∷ [])) ≡ 0 = sym (length-map (rests p n (u ∷ [])) length) ∙ ap length (rests-lengths p n (u ∷ []) ∙ z) in
-      units-from-any n (u ∷ []) (record { some = (lo, tt); fit = (hi, tt) }) q ∙ ap (λ (m : ℕ). take (1 - m) (u ∷ [])) l
+      let z : n + 0 ≡ n = omega arith in
+      let r : rests p n (u ∷ []) ≡ [] = ap (λ (k : ℕ). rests p k (u ∷ [])) (sym z) ∙ drained-none p hp (u ∷ []) (lo, tt) in
+      units-from-any ss i n (u ∷ []) (record { some = (lo, tt); fit = (hi, tt) }) q ∙ ap (λ (us : List (List ℕ)). take (1 - length us) (u ∷ [])) r
+
+  -- a receiver that is not refused with 17
+  pub rejoined : Rejoined p id e
+  rejoined = record { units = units-from-any; one = unit-from-any }

@@ -1,15 +1,18 @@
 -- Delivery (01, the receiver's paragraph), of a run: of its calls and what each answered. A fresh receiver is given the packets, with a buffer
 -- of 16,384 bytes. Assumes nothing.
-use Prim.Native.Nat.{ℕ, _+_, _<_, _≤_}
+use Prim.Native.Nat.{ℕ, _+_, _-_, _<_, _≤_}
 use mathlib.Core.Path.{_≡_}
 use mathlib.Core.List.{List, [], _∷_, _++_}
+use mathlib.Core.Bool.{false}
 use lib.ListN.{length, take, drop, replicate}
 use Rattle.queue.specs.Queue.{addUp, same}
-use Rattle.demand.specs.Bytes.{ofId}
+use Rattle.row.specs.Content.{chunks, rests}
+use Rattle.demand.specs.Bytes.{ofId, numbered}
 use Rattle.demand.specs.Run.{load}
 use Rattle.demand.specs.Log.{Event, acceptedOf, sentOf, sharesOf}
-use Rattle.demand.specs.Condition.{Taken, waitingWith, over}
-use Rattle.delivery.specs.Delivered.{freshEar, deliveredOf}
+use Rattle.demand.specs.Condition.{Taken, waitingWith, piecesOf, over}
+use Rattle.demand.specs.Stream.{Fair}
+use Rattle.delivery.specs.Delivered.{Ear, freshEar, deliveredOf}
 use Rattle.delivery.specs.Whole.{whollySent, deliveredIn, pendingIn}
 use Rattle.delivery.specs.Loss.{Stretch, sentOver, cameOver, Short, begins, ends, uncut}
 
@@ -41,3 +44,13 @@ pub record Delivery (p : ℕ) (es : List Event) (buffer : List ℕ) : Type 0 whe
       → deliveredOf p id (freshEar buffer) (before ++ (instead ++ behind))
       ≡ take (ends (ofId p id before)) (acceptedOf id es)
       ++ drop (begins (ofId p id (before ++ gone))) (take (ends (ofId p id (before ++ (gone ++ behind)))) (acceptedOf id es))
+
+-- A receiver e in whatever state, which missed packets before: what comes of units us of id whose packets are given to it from the first packet
+-- of the first on, n of them, with indexes that follow one another. Other ids and damaged packets may come between
+pub record Rejoined (p id : ℕ) (e : Ear) : Type 0 where
+  -- the units wholly given
+  pub units : (ss : List (List ℕ)) (i n : ℕ) (us : List (List ℕ)) → Fair us → ofId p id ss ≡ numbered id i (chunks p n false us)
+      → deliveredOf p id e ss ≡ take (length us - length (rests p n us)) us
+  -- one unit, all of it
+  pub one : (ss : List (List ℕ)) (i : ℕ) (u : List ℕ) → 1 ≤ p → 1 ≤ length u → length u ≤ 4096 → ofId p id ss ≡ numbered id i (piecesOf p u)
+      → deliveredOf p id e ss ≡ u ∷ []
