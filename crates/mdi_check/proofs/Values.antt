@@ -25,12 +25,12 @@ use Rattle.items.specs.Items.{Item, cutOf, find, spotOf, valueOf, shownAt, byte
 use Rattle.items.specs.declared.Spot.{Spot}
 use Rattle.items.proofs.Stands.{value-is}
 use Rattle.items.proofs.Names.{same-number, same-no}
-use Rattle.mdi_spots.specs.Names.{ptr, fac, sdc, sdci, robm, str0, str1, str2, str3, tist}
+use Rattle.mdi_spots.specs.Names.{letters, ptr, fac, sdc, sdci, robm, str0, str1, str2, str3, tist}
 use Rattle.mdi_spots.specs.Table.{ill, nameOf}
 use Rattle.mdi_spots.specs.Spotted.{spotsOf, spotIn, away}
 use Rattle.mdi_spots.specs.declared.Spots.{Spots}
 use Rattle.mdi_spots.proofs.Items.{ill-is, size-is, spot-of}
-use Rattle.mdi_check.specs.Conditions.{letters, protocol, knownMode, onTime, badValue, badFac, badSdc, served, unserved, mscMode, badDescription, given, agrees, agreesAt, badStreams}
+use Rattle.mdi_check.specs.Conditions.{protocol, knownMode, onTime, badValue, badFac, badSdc, served, unserved, mscMode, badDescription, given, agrees, agreesAt, badStreams}
 
 -- ---- one value
 

@@ -7,23 +7,20 @@ use lib.Dec.{leb, eqb}
 use lib.ListN.{length, getD, take}
 use Rattle.laws.specs.Big.{numberAt}
 use Rattle.clock.specs.Stamps.{decodedFor}
-use Rattle.description.specs.Bytes.{saidOf, describedBy}
+use Rattle.description.specs.Bytes.{describedBy}
 use Rattle.description.specs.WellFormed.{illFormed}
 use Rattle.description.specs.declared.Description.{Description}
 use Rattle.fac.specs.Channel as fast
 use Rattle.fac.specs.Channel.{facOf, notServed}
 use Rattle.sdc.specs.Block as block
 use Rattle.items.specs.Items.{Item, find, valueOf, sameName, bytesFor}
-use Rattle.mdi_spots.specs.Names.{ptr, fac, sdc, sdci, robm, str0, str1, str2, str3, tist}
+use Rattle.mdi_spots.specs.Names.{letters, ptr, fac, sdc, sdci, robm, str0, str1, str2, str3, tist}
 use Rattle.mdi_spots.specs.Table.{ill}
 use Rattle.mdi_spots.specs.Spotted.{spotIn}
+use Rattle.mdi_spots.specs.Streams.{filled}
 use Rattle.mdi_spots.specs.declared.Spots.{Spots}
 
 -- ---- 6: protocol, major revision, robustness, milliseconds
-
--- DMDI
-abbrev pub letters : List ℕ
-letters = 68 ∷ 77 ∷ 68 ∷ 73 ∷ []
 
 -- the four letters, and major revision 0; the minor revision is not looked at
 unfoldable pub protocol : List ℕ → Bool
@@ -68,16 +65,12 @@ abbrev pub given : List ℕ → List Item → ℕ
 given name is = length (valueOf (find name is))
 
 unfoldable pub agrees : List Item → Description → Bool
-agrees is d =
-    eqb (given str0 is) (saidOf d 0) && eqb (given str1 is) (saidOf d 1) && eqb (given str2 is) (saidOf d 2) && eqb (given str3 is) (saidOf d 3)
+agrees is d = filled d (given str0 is) (given str1 is) (given str2 is) (given str3 is)
 
 -- the same asked of the spots: the streams are rows 6 to 9 of the table
 unfoldable pub agreesAt : Spots → Description → Bool
 agreesAt t d =
-    eqb (bytesFor (spotIn t 6 .bits)) (saidOf d 0)
-    && eqb (bytesFor (spotIn t 7 .bits)) (saidOf d 1)
-    && eqb (bytesFor (spotIn t 8 .bits)) (saidOf d 2)
-    && eqb (bytesFor (spotIn t 9 .bits)) (saidOf d 3)
+    filled d (bytesFor (spotIn t 6 .bits)) (bytesFor (spotIn t 7 .bits)) (bytesFor (spotIn t 8 .bits)) (bytesFor (spotIn t 9 .bits))
 
 unfoldable pub badStreams : List Item → Bool
 badStreams is = ill (λ v. agrees is (describedBy v)) (find sdci is)

@@ -24,7 +24,7 @@ use Rattle.items.specs.Items.{Item, Found, none, some, cutOf, find, twice, isTh
 use Rattle.items.proofs.Once.{of-once}
 use Rattle.mdi_spots.specs.Names.{ptr, dlfc, fac, sdc, sdci, robm, str0, str1, str2, str3, tist}
 use Rattle.mdi_spots.specs.Table.{absent, wrong, ill, exactly, wholeBytes, sdcBits, sdciBits, missing, badLength}
-use Rattle.mdi_check.specs.Conditions.{letters, protocol, knownMode, onTime, served, mscMode, agrees, badValue, badFac, badSdc, unserved, badDescription, badStreams}
+use Rattle.mdi_check.specs.Conditions.{protocol, knownMode, onTime, served, mscMode, agrees, badValue, badFac, badSdc, unserved, badDescription, badStreams}
 use Rattle.mdi_check.specs.Conditions as conditions
 use Rattle.mdi_check.specs.Refusals.{itemTests, testsFor}
 use Rattle.mdi_check.proofs.Ways.{items-place}

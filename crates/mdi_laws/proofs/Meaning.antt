@@ -25,7 +25,8 @@ use Rattle.sdc.specs.Block as block
 use Rattle.items.specs.Items.{bytesFor, sameName}
 use Rattle.items.proofs.Names.{same-list, list-same}
 use Rattle.mdi_spots.specs.Table.{exactly, wholeBytes, sdcBits, sdciBits}
-use Rattle.mdi_check.specs.Conditions.{letters, protocol, knownMode, onTime, served}
+use Rattle.mdi_spots.specs.Names.{letters}
+use Rattle.mdi_check.specs.Conditions.{protocol, knownMode, onTime, served}
 use Rattle.mdi_laws.specs.WellFormed.{Exactly, WholeBytes, SdcBits, SdciBits, Anything, Protocol, Served, Channel, Block, BlockOrNone, Robustness, Milliseconds}
 use Rattle.mdi_laws.proofs.Items.{Means, always, not-no}
 

@@ -14,8 +14,8 @@ use Rattle.description.specs.declared.Description.{Description}
 use Rattle.fac.specs.Channel.{facOf}
 use Rattle.fac.specs.declared.Fac.{Fac}
 use Rattle.items.specs.Items.{Item, some, cutOf, find, valueOf, Once}
-use Rattle.mdi_spots.specs.Names.{ptr, dlfc, fac, sdc, sdci, robm, str0, str1, str2, str3, tist}
-use Rattle.mdi_check.specs.Conditions.{letters, mscMode}
+use Rattle.mdi_spots.specs.Names.{letters, ptr, dlfc, fac, sdc, sdci, robm, str0, str1, str2, str3, tist}
+use Rattle.mdi_check.specs.Conditions.{mscMode}
 use Rattle.mdi.specs.Reading.{streamOf}
 
 -- ---- one item

@@ -1,4 +1,4 @@
--- The names of the items of an MDI packet (01, "MDI packet", the table; 002, clause 5) as bytes. Assumes nothing.
+-- The names of the items of an MDI packet, and of its protocol (01, "MDI packet", the table; 002, clause 5) as bytes. Assumes nothing.
 use Prim.Native.Nat.{ℕ}
 use mathlib.Core.List.{List, [], _∷_}
 
@@ -42,3 +42,7 @@ str3 = 115 ∷ 116 ∷ 114 ∷ 51 ∷ []
 -- tist
 abbrev pub tist : List ℕ
 tist = 116 ∷ 105 ∷ 115 ∷ 116 ∷ []
+
+-- DMDI: the protocol in the value of `*ptr`
+abbrev pub letters : List ℕ
+letters = 68 ∷ 77 ∷ 68 ∷ 73 ∷ []

@@ -1,6 +1,6 @@
 -- What the writer refuses and answers (01, "Numbers given back"). Assumes nothing.
 use Prim.Native.Nat.{ℕ, _+_}
-use mathlib.Core.Bool.{Bool, true, false, not, _||_, _&&_}
+use mathlib.Core.Bool.{Bool, true, false, not, _||_}
 use mathlib.Core.Path.{_≡_}
 use mathlib.Core.List.{List, [], _∷_}
 use lib.Dec.{eqb, ltb}
@@ -11,13 +11,13 @@ use Rattle.laws.specs.Refuse.{Test, test, refusedWith}
 use Rattle.laws.specs.Written.{written}
 use Rattle.clock.specs.Stamps.{fieldTests}
 use Rattle.description.specs.declared.Description.{Description}
-use Rattle.description.specs.Bytes.{saidOf}
 use Rattle.description.specs.WellFormed as described
 use Rattle.fac.specs.Channel as fast
 use Rattle.sdc.specs.Block as block
 use Rattle.record.specs.declared.Record.{Record}
 use Rattle.record.specs.declared.Time.{Time}
 use Rattle.record.specs.declared.Time.the-variants.{Absent, Given}
+use Rattle.mdi_spots.specs.Streams.{filled}
 use Rattle.mdi_write.specs.declared.Wrote.{Wrote}
 use Rattle.mdi_write.specs.Packet.{Streams, packetOf}
 
@@ -37,11 +37,7 @@ tooLarge r =
 
 -- the streams are as long as the description says
 unfoldable pub agreed : Description → Streams → Bool
-agreed d ss =
-    eqb (length (ss .s0)) (saidOf d 0)
-    && eqb (length (ss .s1)) (saidOf d 1)
-    && eqb (length (ss .s2)) (saidOf d 2)
-    && eqb (length (ss .s3)) (saidOf d 3)
+agreed d ss = filled d (length (ss .s0)) (length (ss .s1)) (length (ss .s2)) (length (ss .s3))
 
 -- the refusals, in the order tried: what a reader of the packet would refuse, and the output last
 unfoldable pub writeTests : Record → Streams → ℕ → List Test

@@ -30,7 +30,7 @@ entry name value = record { place = 0; name = name; bits = 8 * length value; val
 
 -- DMDI, major revision 0, minor revision 0
 abbrev pub opening : List ℕ
-opening = 68 ∷ 77 ∷ 68 ∷ 73 ∷ 0 ∷ 0 ∷ 0 ∷ 0 ∷ []
+opening = name.letters ++ (0 ∷ 0 ∷ 0 ∷ 0 ∷ [])
 
 -- the value of a `tist` item: empty where there is no timestamp
 unfoldable pub timeBytes : Time → List ℕ

@@ -1,4 +1,4 @@
--- What the steps of the writer ask for and leave. Assumes nothing.
+-- What the private steps of the writer ask for and leave; no promise of a public call cites it. Assumes nothing.
 use Prim.Native.Nat.{ℕ, _+_, _*_, _≤_}
 use mathlib.Core.Bool.{Bool, false}
 use mathlib.Core.Path.{_≡_}

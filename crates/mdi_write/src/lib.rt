@@ -1,6 +1,6 @@
 // Writes an MDI packet (01, "MDI packet"): the items of 01's table in its order, empty ones left out.
 ghost use mathlib.Core.Path.{_≡_};
-ghost use mathlib.Core.Bool.{false, not, _||_, _&&_};
+ghost use mathlib.Core.Bool.{false, not, _||_};
 ghost use mathlib.Core.List.{[], _∷_};
 ghost use Prim.Native.Nat.{_+_, _*_, _≤_, _<_};
 ghost use lib.ListN.{length};
@@ -10,7 +10,7 @@ ghost use Rattle.laws.specs.Limits.{longest};
 ghost use Rattle.laws.specs.Refuse.{refusedWith};
 ghost use Rattle.laws.specs.Written.{written};
 ghost use Rattle.clock.specs.Stamps.{Within, stampBytes, fieldTests};
-ghost use Rattle.description.specs.Bytes.{saidOf, valueOf};
+ghost use Rattle.description.specs.Bytes.{valueOf};
 ghost use Rattle.description.specs.WellFormed as described;
 ghost use Rattle.description.specs.Answers.{unserved};
 ghost use Rattle.fac.specs.Channel as fast;
@@ -18,6 +18,7 @@ ghost use Rattle.fac.specs.Channel.{facBytes};
 ghost use Rattle.sdc.specs.Block.{sdcBytes};
 ghost use Rattle.items.specs.Joined.{joined, kept};
 ghost use Rattle.mdi_spots.specs.Names as name;
+ghost use Rattle.mdi_spots.specs.Streams.{filled};
 ghost use Rattle.mdi_write.specs.Packet.{four, timeBytes, headRows, streamRows, packetOf};
 ghost use Rattle.mdi_write.specs.Rows.{wire, wireSize, sizeFor, Ready};
 ghost use Rattle.mdi_write.specs.Answers.{anyLong, badTime, tooLarge, writeTests, writeFor, outFor};
@@ -202,7 +203,7 @@ fn said(l: description::Lengths) -> usize
 
 // Whether streams of these lengths are as long as the description says.
 fn is_agreed(d: description::Description, n0: usize, n1: usize, n2: usize, n3: usize) -> bool
-    ensures { λ r. ⌜ (r ≡ (eqb n0 (saidOf d 0) && eqb n1 (saidOf d 1) && eqb n2 (saidOf d 2) && eqb n3 (saidOf d 3))) × (length (d .stream) ≡ 4) ⌝ }
+    ensures { λ r. ⌜ (r ≡ filled d n0 n1 n2 n3) × (length (d .stream) ≡ 4) ⌝ }
 {
     let l0 = d.stream[0];
     let l1 = d.stream[1];
