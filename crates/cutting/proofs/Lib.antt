@@ -1,3 +1,4 @@
 pub mod Blocks
 pub mod Counts
 pub mod Needs
+pub mod Settled

@@ -3,3 +3,4 @@ pub mod Search
 pub mod Pass
 pub mod Walk
 pub mod Names
+pub mod Settled
