@@ -16,7 +16,8 @@ use Rattle.hand.specs.declared.Settings.{Settings}
 use Rattle.hand.proofs.Allowed.{allowed}
 use Rattle.queue.proofs.Faults.{Sound, sound-of}
 use Rattle.sender.specs.State.{queueOf, indexOf}
-use Rattle.sender.specs.Frame.{Fit, handOf, frameNumber, framed, frameFor, frameBytes, outFor}
+use Rattle.sender.specs.Frame.{handOf, frameNumber, framed, frameFor, frameBytes, outFor}
+use Rattle.sender.specs.Private.{Fit}
 use Rattle.sender.specs.declared.Sender.{Sender}
 use Rattle.sender.specs.declared.Framed.{Framed}
 use Rattle.sender.specs.declared.Front.{Front}
