@@ -1,49 +1,22 @@
 // `inspect FILE`, or a recording on standard input: prints a line a packet, a line at each break in the succession, and a summary (01, "Clock
-// and recordings"). It walks a recording of any length through a window of fixed size. Nothing here decides what is printed.
+// and recordings"). It reads blocks, hands them to the crate `report`, and writes what that gives: nothing here decides what is printed, and
+// where the blocks end makes no difference (crates/report/proofs/Prints.antt).
 use libc::STDOUT_FILENO;
-use record::Record;
-use recording::Step;
-use tally::Tally;
+use report::Report;
 
-// The longest entry. What stands at the front of a window that has as many bytes, or all that are left, is what stands there in the file
-// (crates/recording/proofs/Window.antt).
+// The longest entry, of which `report` holds the bytes.
 const ENTRY: usize = 65532;
 
-const BUFFER: usize = 262144;
+const BLOCK: usize = 65536;
 
-// The window is bytes from to to of the buffer; its front is at an offset of the file. `last` is the packet read before, where `has_last`.
-struct Walk {
-    done: bool,
-    ended: bool,
-    opened: bool,
+// `at`: bytes of the block taken. `used`: none are left of it, or no more are wanted. `stop`: the recording is refused, or a line could not
+// be written.
+struct Run {
+    report: Report,
+    at: usize,
+    used: bool,
+    stop: bool,
     failed: bool,
-    from: usize,
-    to: usize,
-    at: u64,
-    number: u32,
-    place: u64,
-    has_last: bool,
-    last: Record,
-    tally: Tally,
-}
-
-fn begin() -> Walk {
-    let last = record::none();
-    let tally = tally::none();
-    Walk {
-        done: false,
-        ended: false,
-        opened: false,
-        failed: false,
-        from: 0,
-        to: 0,
-        at: 0,
-        number: 0,
-        place: 0,
-        has_last: false,
-        last,
-        tally,
-    }
 }
 
 // The bytes from .. to; none where they are not there.
@@ -67,145 +40,83 @@ struct Got {
     count: usize,
 }
 
-fn read_behind(fd: i32, buffer: &mut [u8], n: usize) -> Got {
-    if buffer.len() < n {
-        return Got {
-            failed: true,
-            count: 0,
-        };
-    }
-    let rest = &mut buffer[n..];
-    let got = libc::read(fd, rest);
+fn read(fd: i32, block: &mut [u8]) -> Got {
+    let got = libc::read(fd, block);
     Got {
         failed: got < 0,
-        count: io::count(got, rest),
+        count: io::count(got, block),
     }
 }
 
-fn left(from: usize, to: usize) -> usize {
-    if to < from {
-        return 0;
-    }
-    to - from
-}
-
-// Moves the window to the front of the buffer and reads on behind it.
-fn fill(fd: i32, buffer: &mut [u8], w: Walk) -> Walk {
-    let mut w = w;
-    let n = left(w.from, w.to);
-    moves::pull(buffer, 0, w.from, n);
-    let got = read_behind(fd, buffer, n);
-    w.from = 0;
-    w.to = std::num::wrapping_add_usize(n, got.count);
-    w.failed = got.failed;
-    w.done = got.failed;
-    w.ended = got.count == 0;
-    w
-}
-
-fn stop(w: Walk, number: u32, place: u64) -> Walk {
-    let mut w = w;
-    w.done = true;
-    w.number = number;
-    w.place = place;
-    w
-}
-
-fn open(window: &[u8], w: Walk) -> Walk {
-    let o = recording::open(window);
-    if o.number != 0 {
-        return stop(w, o.number, o.place);
-    }
-    let mut w = w;
-    w.opened = true;
-    w.at = o.first;
-    w.from = std::num::wrapping_add_usize(w.from, o.first as usize);
-    w
-}
-
-// The line of a break before this packet, where there is one. Answers whether there was.
-fn print_break(w: Walk, r: Record) -> bool {
-    if !w.has_last {
-        return false;
-    }
-    let mut out = [0u8; 1024];
-    let last = w.last;
-    let n = inspect_text::broken(last, r, &mut out);
-    print(&out, n);
-    n != 0
-}
-
-fn print_packet(packet: &[u8], w: Walk) -> Walk {
-    let a = mdi::read(packet);
-    let c = a.content;
-    let mut broke = false;
-    if a.number == 0 {
-        broke = print_break(w, c);
-    }
-    let t = w.tally;
-    let mut out = [0u8; 1024];
-    let n = inspect_text::line(std::num::wrapping_add_u64(t.packets, 1), w.at, a, &mut out);
-    let is_written = print(&out, n);
-    let mut w = w;
-    w.tally = tally::count(t, a, broke);
-    w.done = !is_written;
-    if a.number == 0 {
-        w.last = c;
-        w.has_last = true;
-    }
-    w
-}
-
-fn pass(w: Walk, next: u64) -> Walk {
-    let mut w = w;
-    w.at = std::num::wrapping_add_u64(w.at, next);
-    w.from = std::num::wrapping_add_usize(w.from, next as usize);
-    w
-}
-
-fn entry(window: &[u8], w: Walk) -> Walk {
-    match recording::next(window, 0) {
-        Step::Entry {
-            start: _,
-            length: _,
-            next,
-        } => pass(print_packet(recording::packet(window, 0), w), next),
-        Step::End => stop(w, 0, 0),
-        Step::Refused { number, place } => stop(w, number, tally::place(w.at, number, place)),
+// One call, and its lines.
+fn show(run: Run, work: &mut [u8; ENTRY], block: &[u8]) -> Run {
+    let mut broken = [0u8; 1024];
+    let mut line = [0u8; 1024];
+    let r = run.report;
+    let s = report::feed(
+        r,
+        work,
+        part(block, run.at, block.len()),
+        &mut broken,
+        &mut line,
+    );
+    print(&broken, s.broken);
+    let is_written = print(&line, s.line);
+    let report = s.report;
+    let walk = report.walk;
+    let stop = !is_written | (walk.number != 0);
+    Run {
+        report,
+        at: std::num::wrapping_add_usize(run.at, s.taken),
+        used: stop | (s.taken == 0),
+        stop,
+        failed: false,
     }
 }
 
-fn turn(fd: i32, buffer: &mut [u8], w: Walk) -> Walk {
-    if !w.ended & (left(w.from, w.to) < ENTRY) {
-        return fill(fd, buffer, w);
+// Hands a block over until all of it is taken. Each call takes a byte at least, so there are no more calls than bytes, and one to see that
+// none is left.
+fn hand_over(run: Run, work: &mut [u8; ENTRY], block: &[u8]) -> Run {
+    let mut run = run;
+    run.at = 0;
+    run.used = false;
+    let mut turns = block.len();
+    while turns > 0 && !run.used {
+        run = show(run, work, block);
+        turns -= 1;
     }
-    let window = part(buffer, w.from, w.to);
-    if w.opened {
-        return entry(window, w);
+    run
+}
+
+// A block read, and handed over. At the end of the recording there is none.
+fn turn(fd: i32, run: Run, work: &mut [u8; ENTRY], block: &mut [u8]) -> Run {
+    let got = read(fd, block);
+    if got.count == 0 {
+        let mut run = run;
+        run.stop = true;
+        run.failed = got.failed;
+        return run;
     }
-    open(window, w)
+    hand_over(run, work, part(block, 0, got.count))
 }
 
 // A proved loop has to end, and nothing says that the input does. So the loop counts its turns down, from a number that no run uses up.
-fn walk_all(fd: i32, buffer: &mut [u8]) -> Walk {
-    let mut w = begin();
+fn read_all(fd: i32, run: Run, work: &mut [u8; ENTRY], block: &mut [u8]) -> Run {
+    let mut run = run;
     let mut turns = u64::MAX;
-    while turns > 0 && !w.done {
-        w = turn(fd, buffer, w);
+    while turns > 0 && !run.stop {
+        run = turn(fd, run, work, block);
         turns -= 1;
     }
-    w
+    run
 }
 
-fn print_end(w: Walk) {
-    let mut out = [0u8; 1024];
-    let t = w.tally;
-    let n = inspect_text::summary(t, &mut out);
-    print(&out, n);
-    if w.number != 0 {
-        let k = inspect_text::refusal(w.number, w.place, &mut out);
-        print(&out, k);
-    }
+fn print_end(r: Report) {
+    let mut summary = [0u8; 1024];
+    let mut refusal = [0u8; 1024];
+    let c = report::end(r, &mut summary, &mut refusal);
+    print(&summary, c.summary);
+    print(&refusal, c.refusal);
 }
 
 fn fail(name: &[u8]) {
@@ -213,14 +124,31 @@ fn fail(name: &[u8]) {
     os::fail(name);
 }
 
+// The first byte by itself: the version.
+fn begin(fd: i32) -> Run {
+    let mut first = [0u8; 1];
+    let got = read(fd, &mut first);
+    let report = report::begin(part(&first, 0, got.count));
+    let walk = report.walk;
+    Run {
+        report,
+        at: 0,
+        used: false,
+        stop: walk.number != 0,
+        failed: got.failed,
+    }
+}
+
 fn inspect(fd: i32, name: &[u8]) {
-    let mut buffer = [0u8; BUFFER];
-    let w = walk_all(fd, &mut buffer);
-    if w.failed {
+    let mut work = [0u8; ENTRY];
+    let mut block = [0u8; BLOCK];
+    let run = read_all(fd, begin(fd), &mut work, &mut block);
+    if run.failed {
         fail(name);
         return;
     }
-    print_end(w);
+    let r = run.report;
+    print_end(r);
 }
 
 fn inspect_file() {

@@ -1,18 +1,15 @@
--- `inspect::walk_all` is safe and ends. Assumes nothing.
+-- `inspect::read_all` is safe and ends. Assumes nothing.
 use mathlib.Core.Path.{_≡_}
 use lib.ListN.{length}
 use borrow.Author.Needs.{needs}
-use Rattle.inspect.proofs.walk_all.Statement.{statement}
-use Rattle.inspect.proofs.walk_all.Tie as tie
+use Rattle.inspect.proofs.read_all.Statement.{statement}
+use Rattle.inspect.proofs.read_all.Tie as tie
 
 abbrev Inv-loop : tie.InvT-loop
-Inv-loop fd buffer₀ w₀ turns₀ buffer w turns = length buffer ≡ length buffer₀
+Inv-loop fd work₀ block₀ run₀ turns₀ work block run turns = length block ≡ length block₀
 
 abbrev μ-loop : tie.MeasureT-loop
-μ-loop fd buffer₀ w₀ turns₀ buffer w turns = turns
-
-begin-requires : tie.Need-begin-requires Inv-loop μ-loop
-begin-requires c κs = search needs
+μ-loop fd work₀ block₀ run₀ turns₀ work block run turns = turns
 
 loop-holds : tie.Need-loop-holds Inv-loop μ-loop
 loop-holds c = search needs
@@ -41,13 +38,12 @@ same-length-2 c = search needs
 returns-2 : tie.Need-returns-2 Inv-loop μ-loop
 returns-2 c = search needs
 
-pub walk-all-spec : {M : Type 1} → statement M
-walk-all-spec =
+pub read-all-spec : {M : Type 1} → statement M
+read-all-spec =
     tie.close
     (tie.spec
     Inv-loop
     μ-loop
-    begin-requires
     loop-holds
     turn-requires
     sub-turns
