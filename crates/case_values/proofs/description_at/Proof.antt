@@ -1,3 +1,4 @@
+-- `case_values::description_at` meets its contract. Assumes nothing.
 use Rattle.case_values.proofs.Read.{description-is}
 use borrow.Author.Needs.{needs}
 use Rattle.case_values.proofs.description_at.Statement.{statement}

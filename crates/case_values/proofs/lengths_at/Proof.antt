@@ -1,3 +1,4 @@
+-- `case_values::lengths_at` meets its contract. Assumes nothing.
 use Rattle.case_values.proofs.Read.{lengths-are}
 use borrow.Author.Needs.{needs}
 use Rattle.case_values.proofs.lengths_at.Statement.{statement}

@@ -1,3 +1,4 @@
+-- `case_values::stamp_at` meets its contract. Assumes nothing.
 use Rattle.case_values.proofs.Read.{stamp-is}
 use borrow.Author.Needs.{needs}
 use Rattle.case_values.proofs.stamp_at.Statement.{statement}

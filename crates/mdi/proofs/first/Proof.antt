@@ -1,3 +1,4 @@
+-- `mdi::first` meets its contract. Assumes nothing.
 use Rattle.mdi.proofs.Ways.{first-none}
 use borrow.Author.Needs.{needs}
 use Rattle.mdi.proofs.first.Statement.{statement}

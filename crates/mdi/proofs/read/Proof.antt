@@ -1,3 +1,4 @@
+-- `mdi::read` meets its contract. Assumes nothing.
 use Rattle.mdi.proofs.Ways.{read-no, spots-are, read-yes}
 use borrow.Author.Needs.{needs}
 use Rattle.mdi.proofs.read.Statement.{statement}

@@ -1,3 +1,4 @@
+-- `mdi::record_of` meets its contract. Assumes nothing.
 use Rattle.mdi.proofs.Ways.{record-is, time-spot}
 use borrow.Author.Needs.{needs}
 use Rattle.mdi.proofs.record_of.Statement.{statement}

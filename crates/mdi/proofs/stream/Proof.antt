@@ -1,3 +1,4 @@
+-- `mdi::stream` meets its contract. Assumes nothing.
 use Rattle.mdi.proofs.Ways.{stream-no, stream-over, stream-row}
 use borrow.Author.Needs.{needs}
 use Rattle.mdi.proofs.stream.Statement.{statement}

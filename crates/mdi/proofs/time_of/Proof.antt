@@ -1,3 +1,4 @@
+-- `mdi::time_of` meets its contract. Assumes nothing.
 use Rattle.mdi.proofs.Ways.{time-none, time-some}
 use borrow.Author.Needs.{needs}
 use Rattle.mdi.proofs.time_of.Statement.{statement}

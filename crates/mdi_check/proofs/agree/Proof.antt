@@ -1,3 +1,4 @@
+-- `mdi_check::agree` meets its contract. Assumes nothing.
 use Rattle.mdi_check.proofs.Values.{agree-is}
 use borrow.Author.Needs.{needs}
 use Rattle.mdi_check.proofs.agree.Statement.{statement}

@@ -1,3 +1,4 @@
+-- `mdi_check::bad_fac` meets its contract. Assumes nothing.
 use Rattle.mdi_check.proofs.Values.{fac-at}
 use borrow.Author.Needs.{needs}
 use Rattle.mdi_check.proofs.bad_fac.Statement.{statement}

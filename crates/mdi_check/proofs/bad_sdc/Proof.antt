@@ -1,3 +1,4 @@
+-- `mdi_check::bad_sdc` meets its contract. Assumes nothing.
 use Rattle.mdi_check.proofs.Values.{sdc-at}
 use borrow.Author.Needs.{needs}
 use Rattle.mdi_check.proofs.bad_sdc.Statement.{statement}

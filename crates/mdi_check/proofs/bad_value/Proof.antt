@@ -1,3 +1,4 @@
+-- `mdi_check::bad_value` meets its contract. Assumes nothing.
 use Rattle.mdi_check.proofs.Values.{value-at}
 use borrow.Author.Needs.{needs}
 use Rattle.mdi_check.proofs.bad_value.Statement.{statement}

@@ -1,3 +1,4 @@
+-- `mdi_check::check` meets its contract. Assumes nothing.
 use Rattle.mdi_check.proofs.Ways.{way-1, way-2, way-3, way-on, way-done, spots-of}
 use borrow.Author.Needs.{needs}
 use Rattle.mdi_check.proofs.check.Statement.{statement}

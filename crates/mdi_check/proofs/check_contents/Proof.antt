@@ -1,3 +1,4 @@
+-- `mdi_check::check_contents` meets its contract. Assumes nothing.
 use Rattle.mdi_check.proofs.Values.{served-at, description-at, streams-at}
 use Rattle.mdi_check.proofs.Ways.{no-9, no-10, no-11, no-0}
 use borrow.Author.Needs.{needs}

@@ -1,3 +1,4 @@
+-- `mdi_check::check_items` meets its contract. Assumes nothing.
 use Rattle.mdi_check.proofs.Ways.{no-4, no-5, no-6, no-7, no-8, no-more}
 use borrow.Author.Needs.{needs}
 use Rattle.mdi_check.proofs.check_items.Statement.{statement}

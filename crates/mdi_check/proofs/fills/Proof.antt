@@ -1,3 +1,4 @@
+-- `mdi_check::fills` meets its contract. Assumes nothing.
 use Rattle.mdi_check.proofs.Values.{fills-is}
 use borrow.Author.Needs.{needs}
 use Rattle.mdi_check.proofs.fills.Statement.{statement}

@@ -1,3 +1,4 @@
+-- `mdi_check::is_known_mode` meets its contract. Assumes nothing.
 use Rattle.mdi_check.specs.Conditions.{knownMode}
 use mathlib.Core.Path.{refl}
 use Rattle.mdi_check.proofs.Values.{mode-none}

@@ -1,3 +1,4 @@
+-- `mdi_check::is_on_time` meets its contract. Assumes nothing.
 use Rattle.mdi_check.proofs.Values.{time-is}
 use borrow.Author.Needs.{needs}
 use Rattle.mdi_check.proofs.is_on_time.Statement.{statement}

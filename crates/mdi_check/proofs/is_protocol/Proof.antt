@@ -1,3 +1,4 @@
+-- `mdi_check::is_protocol` meets its contract. Assumes nothing.
 use native.Mathlib.Omega.{arith}
 use Rattle.mdi_check.proofs.Values.{protocol-is}
 use borrow.Author.Needs.{needs}

@@ -1,3 +1,4 @@
+-- `mdi_check::refused` meets its contract. Assumes nothing.
 use Rattle.items.specs.Items.{find, spotOf}
 use Rattle.mdi_spots.specs.Spotted.{spotsOf}
 use mathlib.Core.Path.{refl}

@@ -1,3 +1,4 @@
+-- `mdi_spots::bad_length` meets its contract. Assumes nothing.
 use Rattle.mdi_spots.proofs.Ways.{length-at}
 use borrow.Author.Needs.{needs}
 use Rattle.mdi_spots.proofs.bad_length.Statement.{statement}

@@ -1,3 +1,4 @@
+-- `mdi_spots::find_all` meets its contract. Assumes nothing.
 use Rattle.laws.specs.Big.{numberAt, bigOf}
 use Rattle.tag_spots.specs.Rows.{keyAt, keysOf}
 use mathlib.Core.Path.{refl}

@@ -1,3 +1,4 @@
+-- `mdi_spots::missing` meets its contract. Assumes nothing.
 use Rattle.mdi_spots.proofs.Ways.{missing-at}
 use borrow.Author.Needs.{needs}
 use Rattle.mdi_spots.proofs.missing.Statement.{statement}

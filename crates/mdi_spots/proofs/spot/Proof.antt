@@ -1,3 +1,4 @@
+-- `mdi_spots::spot` meets its contract. Assumes nothing.
 use Rattle.mdi_spots.proofs.Ways.{no-row}
 use borrow.Author.Needs.{needs}
 use Rattle.mdi_spots.proofs.spot.Statement.{statement}

@@ -1,3 +1,4 @@
+-- `repeats::among_few` meets its contract. Assumes nothing.
 use Rattle.repeats.proofs.Names.{arrays-fit}
 use native.Mathlib.Omega.{arith}
 use borrow.Author.Needs.{needs}

@@ -1,3 +1,4 @@
+-- `repeats::descend` meets its contract. Assumes nothing.
 use Rattle.repeats.proofs.Trees.{On, on-start, ends-hit, go-on, go-down, go-out}
 use borrow.Author.Needs.{needs}
 use lib.ListN.{length, take}

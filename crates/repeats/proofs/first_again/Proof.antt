@@ -1,3 +1,4 @@
+-- `repeats::first_again` meets its contract. Assumes nothing.
 use Rattle.repeats.proofs.Names.{repeat-long, repeat-short, repeat-few}
 use borrow.Author.Needs.{needs}
 use Rattle.repeats.proofs.first_again.Statement.{statement}

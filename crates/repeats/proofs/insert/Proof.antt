@@ -1,3 +1,4 @@
+-- `repeats::insert` meets its contract. Assumes nothing.
 use Rattle.repeats.proofs.Trees.{stored-first, stored-was, stored-new, low-slot}
 use borrow.Author.Needs.{needs}
 use Rattle.repeats.proofs.insert.Statement.{statement}

@@ -1,3 +1,4 @@
+-- `repeats::store` meets its contract. Assumes nothing.
 use Rattle.repeats.proofs.Names.{Seeing, seeing-none, seen-all, seen-full, nearer, can-insert, seen-again, seeing-more}
 use Rattle.items.proofs.Rule.{at-fits}
 use borrow.Author.Needs.{needs}

@@ -1,3 +1,4 @@
+-- `tag_spots::find_all` meets its contract. Assumes nothing.
 use Rattle.tag_spots.proofs.Walk.{left-starts, left-bits, found-starts, found-bits, walked-stop}
 use borrow.Author.Needs.{needs}
 use Rattle.tag_spots.proofs.find_all.Statement.{statement}

@@ -1,3 +1,4 @@
+-- `tag_spots::note` meets its contract. Assumes nothing.
 use native.Mathlib.Omega.{arith}
 use Rattle.tag_spots.proofs.Rows.{note-first, note-later, note-none}
 use borrow.Author.Needs.{needs}

@@ -1,3 +1,4 @@
+-- `tag_spots::note_all` meets its contract. Assumes nothing.
 use Rattle.items.proofs.Rule.{at-fits}
 use Rattle.tag_spots.proofs.Walk.{Walking, walking-first, same-starts, same-bits, walking-more}
 use Rattle.tag_spots.proofs.Pass.{passing-done}

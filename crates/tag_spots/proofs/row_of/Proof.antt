@@ -1,3 +1,4 @@
+-- `tag_spots::row_of` meets its contract. Assumes nothing.
 use Rattle.tag_spots.proofs.Search.{row-empty, row-here, row-other, row-none}
 use native.Mathlib.Nat.{mod-lt}
 use native.Mathlib.Omega.{arith}

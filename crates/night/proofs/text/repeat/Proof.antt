@@ -1,3 +1,4 @@
+-- `night::text::repeat` is safe and ends. Assumes nothing.
 use Prim.Native.Nat.{_-_}
 use borrow.Author.Needs.{needs}
 use Rattle.night.proofs.text.repeat.Statement.{statement}

@@ -1,3 +1,4 @@
+-- `night::wish::number_in` is safe and ends. Assumes nothing.
 use Prim.Native.Nat.{_-_}
 use lib.ListN.{length}
 use borrow.Author.Needs.{needs}

@@ -1,3 +1,4 @@
+-- `night::wish::slot` is safe and ends. Assumes nothing.
 use Prim.Native.Nat.{_≤_, _-_}
 use borrow.Author.Needs.{needs}
 use Rattle.night.proofs.wish.slot.Statement.{statement}
