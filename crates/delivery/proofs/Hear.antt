@@ -8,6 +8,7 @@ use borrow.Author.Tests.{eq-eqb, ne-eqb, le-ltb, leb-true, eqb-true, eqb-false}
 use lib.Dec.{leb, ltb, eqb}
 use lib.ListN.{length, take, drop, getD, length-append, length-drop, length-set}
 use lib.Seq.{getD-set-same, getD-set-other, take-at, length-take-le}
+use Rattle.laws.specs.Part.{partOf}
 use Rattle.laws.specs.Pick.{pick}
 use Rattle.laws.specs.Written.{written}
 use Rattle.laws.proofs.Written.{written-length}
@@ -17,7 +18,7 @@ use Rattle.receiver.specs.declared.Link.{Link}
 use Rattle.receiver.specs.declared.Receiver.{Receiver}
 use Rattle.receiver.specs.Link.{kept, nullOf, baseOf, joins, adds, completes, Fate, delivered, added, dropped, skipped, fateOf, linkWith, linkAfter, brokenLink, noLink}
 use Rattle.receiver.specs.Receiver.{linkOf, fresh, broken, baseIn, addsIn, answerBy, answerIn, linkIn, takenIn, bufferIn, stepTests, stepNumber, stepFor, bufferFor}
-use Rattle.receiver.specs.Line.{grown, lineAfter, unitsBy, partAt, lineOf}
+use Rattle.receiver.specs.Line.{grown, lineAfter, unitsBy, lineOf}
 use Rattle.demand.proofs.Store.{written-own, written-other}
 use Rattle.delivery.specs.Delivered.{Ear, freshEar, lineAt, hear, unitIn, unitBy}
 
@@ -99,7 +100,7 @@ module _ (r : Receiver) (buffer : List ℕ) (k : Packet) (four : length (r .link
   unfolding takenIn
   other-link j e = getD-set-other (r .link) (k .id) j (linkIn r k) noLink e
 
-  room : length (partAt buffer (k .id)) ≡ 4096
+  room : length (partOf buffer (k .id)) ≡ 4096
   room = length-take-le 4096 (drop (k .id * 4096) buffer) (omega (arith, length-drop (k .id * 4096) buffer))
 
   fit : addsIn r k ≡ true → baseIn r k + length (k .chunk .body) ≤ 4096
@@ -107,21 +108,21 @@ module _ (r : Receiver) (buffer : List ℕ) (k : Packet) (four : length (r .link
 
   -- the bytes of the unit with those that are written
   grown-at : addsIn r k ≡ true
-      → take (baseIn r k + length (k .chunk .body)) (partAt (written buffer (k .id * 4096 + baseIn r k) (k .chunk .body)) (k .id)) ≡ grown (lineOf r buffer (k .id)) (k .chunk)
+      → take (baseIn r k + length (k .chunk .body)) (partOf (written buffer (k .id * 4096 + baseIn r k) (k .chunk .body)) (k .id)) ≡ grown (lineOf r buffer (k .id)) (k .chunk)
   unfolding grown lineOf
   grown-at e =
       let h = fit e in
-      let q = partAt buffer (k .id) in
+      let q = partOf buffer (k .id) in
       let b = k .chunk .body in
       ap (take (baseIn r k + length b)) (written-own buffer (k .id) (baseIn r k) b (omega arith) h)
       ∙ take-written q (baseIn r k) b (omega (arith, room))
       ∙ ap (λ (x : List ℕ). x ++ b) (front-is (linkOf r (k .id)) (k .chunk .first) q)
 
-  other-part : (j : ℕ) → (j ≡ k .id → ⊥) → partAt (bufferIn r k buffer) j ≡ partAt buffer j
+  other-part : (j : ℕ) → (j ≡ k .id → ⊥) → partOf (bufferIn r k buffer) j ≡ partOf buffer j
   unfolding bufferIn
   other-part j e = go (addsIn r k) refl
     where
-      go : (a : Bool) → addsIn r k ≡ a → partAt (pick a (written buffer (k .id * 4096 + baseIn r k) (k .chunk .body)) buffer) j ≡ partAt buffer j
+      go : (a : Bool) → addsIn r k ≡ a → partOf (pick a (written buffer (k .id * 4096 + baseIn r k) (k .chunk .body)) buffer) j ≡ partOf buffer j
       go true f = written-other buffer (k .id) (baseIn r k) (k .chunk .body) (omega arith) (fit f) j e
       go false f = refl
 
@@ -154,7 +155,7 @@ unfolding linkWith
 with-ok i true n f = record { index = omega arith; fits = λ e. f refl }
 with-ok i false n f = record { index = omega arith; fits = λ e. omega arith }
 
-part-pick : (a : Bool) (x y : List ℕ) (j : ℕ) → partAt (pick a x y) j ≡ pick a (partAt x j) (partAt y j)
+part-pick : (a : Bool) (x y : List ℕ) (j : ℕ) → partOf (pick a x y) j ≡ pick a (partOf x j) (partOf y j)
 part-pick true x y j = refl
 part-pick false x y j = refl
 
@@ -162,12 +163,12 @@ module _ (r : Receiver) (buffer : List ℕ) (k : Packet) (four : length (r .link
   abbrev nextBuffer : List ℕ
   nextBuffer = written buffer (k .id * 4096 + baseIn r k) (k .chunk .body)
 
-  own-bytes : take (linkIn r k .len) (partAt (bufferIn r k buffer) (k .id)) ≡ lineAfter (lineOf r buffer (k .id)) (k .index) (k .chunk) .bytes
+  own-bytes : take (linkIn r k .len) (partOf (bufferIn r k buffer) (k .id)) ≡ lineAfter (lineOf r buffer (k .id)) (k .index) (k .chunk) .bytes
   unfolding lineAfter linkAfter bufferIn lineOf
   own-bytes =
       rw (part-pick (addsIn r k) nextBuffer buffer (k .id))
       (held-after (nullOf (k .chunk .first) (k .chunk .last) (length (k .chunk .body))) (addsIn r k) (k .chunk .last) (kept (linkOf r (k .id)) (k .index)) (k .index)
-      (linkOf r (k .id) .len) (baseIn r k + length (k .chunk .body)) (partAt buffer (k .id)) (partAt nextBuffer (k .id)) (grown (lineOf r buffer (k .id)) (k .chunk))
+      (linkOf r (k .id) .len) (baseIn r k + length (k .chunk .body)) (partOf buffer (k .id)) (partOf nextBuffer (k .id)) (grown (lineOf r buffer (k .id)) (k .chunk))
       (null-adds (linkOf r (k .id)) (k .index) (k .chunk .first) (k .chunk .last) (length (k .chunk .body))) (grown-at r buffer k four hid size))
 
   own-line : lineOf (takenIn r k .next) (bufferIn r k buffer) (k .id) ≡ lineAfter (lineOf r buffer (k .id)) (k .index) (k .chunk)
@@ -200,7 +201,7 @@ module _ (r : Receiver) (buffer : List ℕ) (k : Packet) (four : length (r .link
       go false e = rw (other-link r buffer k four hid size j (eqb-false _ _ e)) (o j)
 
 -- the unit that the answer reports; a: bytes were added, t: the last flag, n: all bytes of the unit
-unit-own : (a j t : Bool) (id n : ℕ) (x y g : List ℕ) → (a ≡ true → take n (partAt x id) ≡ g)
+unit-own : (a j t : Bool) (id n : ℕ) (x y g : List ℕ) → (a ≡ true → take n (partOf x id) ≡ g)
     → unitIn id (answerBy (pick (a && t) delivered (pick a added (pick j dropped skipped))) id n) (pick a x y)
     ≡ pick (a && t) (g ∷ []) []
 unfolding unitIn answerBy

@@ -4,12 +4,13 @@ use Prim.Native.Nat.{ℕ}
 use mathlib.Core.List.{List, [], _∷_, _++_}
 use lib.Dec.{eqb}
 use lib.ListN.{length, take}
+use Rattle.laws.specs.Part.{partOf}
 use Rattle.laws.specs.Pick.{pick}
 use Rattle.receiver.specs.declared.Receiver.{Receiver}
 use Rattle.receiver.specs.declared.Answer.{Answer}
 use Rattle.receiver.specs.declared.Answer.the-variants.{Nothing, Delivered, Refused}
 use Rattle.receiver.specs.Receiver.{fresh, stepFor, bufferFor}
-use Rattle.receiver.specs.Line.{Line, partAt, lineOf}
+use Rattle.receiver.specs.Line.{Line, lineOf}
 
 pub record Ear : Type 0 where
   pub receiver : Receiver
@@ -29,7 +30,7 @@ hearAll p e (s ∷ ss) = hearAll p (hear p e s) ss
 -- the unit of id that an answer reports: the bytes that stand in the buffer then. Or nothing
 unfoldable pub unitIn : ℕ → Answer → List ℕ → List (List ℕ)
 unitIn id Nothing buffer = []
-unitIn id (Delivered j n) buffer = pick (eqb id j) (take n (partAt buffer j) ∷ []) []
+unitIn id (Delivered j n) buffer = pick (eqb id j) (take n (partOf buffer j) ∷ []) []
 unitIn id (Refused number) buffer = []
 
 unfoldable pub unitBy : ℕ → ℕ → Ear → List ℕ → List (List ℕ)

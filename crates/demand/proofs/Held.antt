@@ -8,6 +8,7 @@ use borrow.Author.Tests.{eq-eqb, ne-eqb, eqb-true}
 use lib.Dec.{eqb, lit<}
 use lib.ListN.{length, take, drop, length-drop, take-append-drop}
 use lib.Seq.{take-take, drop-drop, length-take-le}
+use Rattle.laws.specs.Part.{partOf}
 use Rattle.laws.specs.Pick.{pick}
 use Rattle.laws.specs.Written.{written}
 use Rattle.hand.specs.Settings.{at, Allowed}
@@ -19,7 +20,7 @@ use Rattle.queue.specs.declared.Queue.{Queue}
 use Rattle.queue.proofs.Keep.{pushed-units, pushed-sent}
 use Rattle.row.specs.Content.{cut, contentOf, begunIn, rests, begunAfter, chunks}
 use Rattle.row.specs.declared.Out.{Out}
-use Rattle.sender.specs.State.{queueOf, indexOf, outOf, partOf}
+use Rattle.sender.specs.State.{queueOf, indexOf, outOf}
 use Rattle.sender.specs.Load.{placedIn, Accepted}
 use Rattle.sender.specs.Frame.{handOf, endOf, endsOf, nextFrom, closed, closedAll, frameBytes}
 use Rattle.sender.specs.Frame as sends

@@ -6,11 +6,12 @@ use mathlib.Core.Bool.{false}
 use native.Mathlib.Omega.{arith}
 use lib.ListN.{length, drop, length-drop, length-map}
 use lib.Seq.{length-take-le}
+use Rattle.laws.specs.Part.{partOf}
 use Rattle.hand.specs.Settings.{at}
 use Rattle.queue.specs.Queue.{addUp, same, units, unsent}
 use Rattle.queue.specs.Send.{waits, got}
 use Rattle.row.specs.Content.{cut, contentOf, begunIn, rests}
-use Rattle.sender.specs.State.{fresh, queueOf, indexOf, partOf, waitingOf}
+use Rattle.sender.specs.State.{fresh, queueOf, indexOf, waitingOf}
 use Rattle.demand.specs.Bytes.{ofId}
 use Rattle.demand.specs.Run.{Act, Desk, freshDesk, run, Steady}
 use Rattle.demand.specs.Log.{Event, log, Stands, packetsOf, unitFor, leftOf, waitingAt}

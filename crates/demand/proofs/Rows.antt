@@ -8,6 +8,7 @@ use native.Mathlib.Omega.{arith}
 use lib.Dec.{eqb, leb, lit<}
 use lib.ListN.{length, getD, take, drop, length-append}
 use lib.Seq.{take-at, drop-at}
+use Rattle.laws.specs.Part.{partOf}
 use Rattle.laws.specs.Pick.{pick}
 use Rattle.hand.specs.Settings.{at, Allowed}
 use Rattle.hand.specs.declared.Three.{Three}
@@ -21,7 +22,7 @@ use Rattle.queue.proofs.Keep.{none-sound}
 use Rattle.row.specs.Row.{headLen, packetAt, stepped, steps, outs, startOf, Whole}
 use Rattle.row.specs.declared.Out.{Out}
 use Rattle.row.proofs.Steps.{at-fits, whole-of, whole-steps}
-use Rattle.sender.specs.State.{indexOf, outOf, partOf, waitingOf}
+use Rattle.sender.specs.State.{indexOf, outOf, waitingOf}
 use Rattle.sender.specs.Frame.{handOf, rowAt, framePackets, frameBytes, endsOf, nextFrom, framed}
 use Rattle.sender.specs.declared.Front.{Front}
 use Rattle.sender.proofs.Framing.{null-outs}

@@ -8,11 +8,11 @@ use borrow.Author.Tests.{leb-true, leb-false}
 use lib.Dec.{leb}
 use lib.ListN.{length, take, drop, length-append, length-drop, take-append-drop}
 use lib.Seq.{take-take, drop-drop, take-add, take-append-le, drop-append-le, take-at, drop-at, length-take-le}
+use Rattle.laws.specs.Part.{partOf}
 use Rattle.laws.specs.Written.{written}
 use Rattle.laws.proofs.Written.{written-length}
 use Rattle.queue.specs.Queue.{addUp, same}
 use Rattle.row.specs.Content.{cut}
-use Rattle.sender.specs.State.{partOf}
 use Rattle.demand.proofs.Content.{take-drop}
 
 -- the part at b replaced

@@ -4,12 +4,13 @@ use mathlib.Core.List.{List, [], _∷_, _++_}
 use mathlib.Core.Bool.{_&&_}
 use lib.Dec.{eqb}
 use lib.ListN.{length}
+use Rattle.laws.specs.Part.{partOf}
 use Rattle.laws.specs.Pick.{pick}
 use Rattle.hand.specs.Settings.{at}
 use Rattle.queue.specs.Queue.{units}
 use Rattle.queue.specs.Send.{Turn, loaded, framed, waits}
 use Rattle.row.specs.Content.{contentOf}
-use Rattle.sender.specs.State.{queueOf, partOf}
+use Rattle.sender.specs.State.{queueOf}
 use Rattle.sender.specs.Load.{loadNumber}
 use Rattle.sender.specs.Frame.{handOf, frameNumber, outFor}
 use Rattle.demand.specs.Bytes.{split}

@@ -3,10 +3,11 @@ use Prim.Native.Nat.{ℕ}
 use mathlib.Core.Bool.{true, false}
 use mathlib.Core.List.{List, [], _∷_}
 use Rattle.laws.specs.Pick.{pick}
+use Rattle.laws.specs.Said.{Said}
 use Rattle.receiver.specs.declared.Receiver.{Receiver}
 use Rattle.receiver.specs.declared.Answer.{Answer}
 use Rattle.receiver.specs.declared.Answer.the-variants.{Nothing, Delivered, Refused}
-use Rattle.receiver.specs.Receiver.{Said, fresh, stepFor}
+use Rattle.receiver.specs.Receiver.{fresh, stepFor}
 use Rattle.host.specs.declared.Received.{Received}
 
 -- no packet has come: the library's `fresh`, by a name that the sender's leaves free

@@ -1,7 +1,9 @@
 pub mod Big
 pub mod Fields
 pub mod Limits
+pub mod Part
 pub mod Pick
 pub mod Refuse
+pub mod Said
 pub mod Settle
 pub mod Written

@@ -23,7 +23,7 @@ use Rattle.receiver.specs.declared.Told.{Told}
 use Rattle.receiver.specs.declared.Answer.{Answer}
 use Rattle.receiver.specs.declared.Answer.the-variants.{Nothing, Delivered, Refused}
 use Rattle.receiver.specs.Link.{baseOf, joins, adds, completes, Fate, delivered, added, dropped, skipped, fateOf, linkAfter, brokenLink}
-use Rattle.receiver.specs.Receiver.{linkOf, broken, numberWith, saysWith, Ready, fateIn, baseIn, answerBy, answerIn, takenIn, bufferIn, stepTests, stepNumber, stepFor, bufferFor, Said, told, valuesBy, saidFor}
+use Rattle.receiver.specs.Receiver.{linkOf, broken, numberWith, saysWith, Ready, fateIn, baseIn, answerBy, answerIn, takenIn, bufferIn, stepTests, stepNumber, stepFor, bufferFor, told, valuesBy, saidFor}
 use Rattle.receiver.proofs.Links.{adds-fit}
 
 -- ---- the number

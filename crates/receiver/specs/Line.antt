@@ -1,7 +1,8 @@
 -- One id of the receiver, with the bytes of its open unit (01, "Packets, queues and receiver"). Assumes nothing.
-use Prim.Native.Nat.{ℕ, _*_}
+use Prim.Native.Nat.{ℕ}
 use mathlib.Core.List.{List, [], _∷_, _++_}
-use lib.ListN.{length, take, drop}
+use lib.ListN.{length, take}
+use Rattle.laws.specs.Part.{partOf}
 use Rattle.laws.specs.Pick.{pick}
 use Rattle.packet.specs.Packet.{Chunk}
 use Rattle.receiver.specs.declared.Link.{Link}
@@ -26,9 +27,5 @@ lineAfter l i c =
 unfoldable pub unitsBy : Line → ℕ → Chunk → List (List ℕ)
 unitsBy l i c = pick (completes (l .link) i (c .first) (c .last) (length (c .body))) (grown l c ∷ []) []
 
--- the 4,096 bytes of an id
-abbrev pub partAt : List ℕ → ℕ → List ℕ
-partAt s id = take 4096 (drop (id * 4096) s)
-
 unfoldable pub lineOf : Receiver → List ℕ → ℕ → Line
-lineOf r buffer id = record { link = linkOf r id; bytes = take (linkOf r id .len) (partAt buffer id) }
+lineOf r buffer id = record { link = linkOf r id; bytes = take (linkOf r id .len) (partOf buffer id) }

@@ -8,6 +8,7 @@ use lib.Dec.{ltb, eqb}
 use lib.ListN.{length, getD, set}
 use Rattle.laws.specs.Pick.{pick}
 use Rattle.laws.specs.Refuse.{Test, test, refusedWith}
+use Rattle.laws.specs.Said.{Said}
 use Rattle.laws.specs.Written.{written}
 use Rattle.packet.specs.Packet.{Packet, packetOf, decode}
 use Rattle.packet.specs.Calls.{wrongWord, wrongCount}
@@ -98,11 +99,6 @@ pub record Ready (h : Head) (n room : ℕ) : Type 0 where
   pub whole : room ≡ 16384
 
 -- ---- 01's number and place for each case, and the values: of a unit its id and length
-pub record Said : Type 0 where
-  pub number : ℕ
-  pub place : ℕ
-  pub values : List ℕ
-
 unfoldable pub told : Answer → Said
 told Nothing = record { number = 0; place = 0; values = [] }
 told (Delivered id n) = record { number = 0; place = 0; values = id ∷ n ∷ [] }

@@ -9,6 +9,7 @@ use Rattle.laws.specs.Big.{bytesOf, numberAt}
 use Rattle.laws.specs.Limits.{longest}
 use Rattle.laws.specs.Pick.{pick}
 use Rattle.laws.specs.Refuse.{Test, test, refusedWith, refusedAt}
+use Rattle.laws.specs.Said.{Said}
 use Rattle.laws.specs.Written.{written}
 use Rattle.recording.specs.declared.Opened.{Opened}
 use Rattle.recording.specs.declared.Grown.{Grown}
@@ -66,17 +67,12 @@ stepFor file at =
     (Refused (refusedWith (stepTests file at)) (refusedAt (stepTests file at))))
 
 -- 01's number and place for each case, and the values: of an entry where its packet starts, its length and where the next begins
-pub record Told : Type 0 where
-  pub number : ℕ
-  pub place : ℕ
-  pub values : List ℕ
-
-unfoldable pub told : Step → Told
+unfoldable pub told : Step → Said
 told (Entry start len next) = record { number = 0; place = 0; values = start ∷ len ∷ next ∷ [] }
 told End = record { number = 0; place = 0; values = [] }
 told (Refused number place) = record { number = number; place = place; values = [] }
 
-unfoldable pub toldFor : List ℕ → ℕ → Told
+unfoldable pub toldFor : List ℕ → ℕ → Said
 toldFor file at = record {
   number = refusedWith (stepTests file at);
   place = refusedAt (stepTests file at);

@@ -9,6 +9,7 @@ use borrow.Author.Tests.{eq-eqb, ne-eqb, lt-ltb, le-ltb, le-leb, eqb-true, ltb-f
 use lib.Dec.{eqb, lit<}
 use lib.ListN.{length, take, drop, length-drop, length-append}
 use lib.Seq.{take-all, length-take-le}
+use Rattle.laws.specs.Part.{partOf}
 use Rattle.laws.specs.Pick.{pick}
 use Rattle.laws.specs.Refuse.{refusedWith}
 use Rattle.laws.specs.Written.{written}
@@ -32,7 +33,7 @@ use Rattle.row.specs.Row.{headLen, popped, packetAt, stepped, steps, outs, star
 use Rattle.row.specs.declared.Out.{Out}
 use Rattle.queue.proofs.Taken.{headLen-p}
 use Rattle.row.proofs.Steps.{Fit, fit-back, outs-length}
-use Rattle.sender.specs.State.{queueOf, indexOf, outOf, partOf, brokenState, waitingOf}
+use Rattle.sender.specs.State.{queueOf, indexOf, outOf, brokenState, waitingOf}
 use Rattle.sender.specs.Frame.{handOf, rowAt, nulls, framePackets, endOf, endsOf, nextFrom, closed, closedAll, frameTests, frameNumber, framed, frameFor, frameBytes, outFor, storeAfter}
 use Rattle.sender.specs.Private.{Ready}
 use Rattle.sender.specs.Private as private

@@ -4,6 +4,7 @@ use mathlib.Core.List.{List, [], _∷_, _++_}
 use mathlib.Core.Bool.{true, not}
 use lib.Dec.{ltb, eqb}
 use lib.ListN.{length}
+use Rattle.laws.specs.Part.{partOf}
 use Rattle.laws.specs.Pick.{pick}
 use Rattle.laws.specs.Refuse.{Test, test, refusedWith}
 use Rattle.laws.specs.Written.{written}
@@ -17,7 +18,7 @@ use Rattle.moves.specs.Moves.{pulled}
 use Rattle.queue.specs.Queue.{unsent}
 use Rattle.row.specs.Row.{steps, outs}
 use Rattle.row.specs.declared.Out.{Out}
-use Rattle.sender.specs.State.{indexOf, outOf, partOf, brokenState, waitingOf}
+use Rattle.sender.specs.State.{indexOf, outOf, brokenState, waitingOf}
 use Rattle.sender.specs.declared.Front.{Front}
 use Rattle.sender.specs.Answers.{Framed}
 use Rattle.sender.specs.declared.Ends.{Ends}
