@@ -11,10 +11,8 @@ use Rattle.moves.specs.Moves.{Puts}
 use Rattle.moves.proofs.Pieces.{puts-once}
 use Rattle.record.specs.declared.Record.{Record}
 use Rattle.stamp_text.specs.Stamp.{since}
-use Rattle.tally.specs.declared.Tally.{Tally}
 use Rattle.inspect_text.specs.Break.{breakText}
 use Rattle.inspect_text.specs.Inspect.{packetText, Line, refusedText}
-use Rattle.inspect_text.specs.Summary.{summaryText, Summary}
 
 -- `refusal` and `broken`; an input is what they are of and the buffer before the call, an outcome the length and the buffer after the call
 pub refusal-text : Settles (λ (i : ℕ × ℕ × List ℕ) (o : ℕ × List ℕ). Puts (i .2) 0 (refusedText (i .0) (i .1)) (o .1) (o .0))
@@ -29,12 +27,3 @@ line-text i x y p q =
     let e = one-date (since (i .2 .content .time)) (q .date) (p .date) (q .dated) (p .dated) in
     puts-once (i .3) 0 (packetText (i .0) (i .1) (i .2) (p .date)) x y (p .text)
     (subst (λ (d : Date). Puts (i .3) 0 (packetText (i .0) (i .1) (i .2) d) (y .1) (y .0)) e (q .text))
-
--- `summary`: with the dates of the first and of the last timestamp
-pub summary-text : Settles (λ (i : Tally × List ℕ) (o : ℕ × List ℕ). Summary (i .0) (i .1) (o .1) (o .0))
-summary-text i x y p q =
-    let e = one-date (since (i .0 .first)) (q .date) (p .date) (q .dated) (p .dated) in
-    let u = one-date (since (i .0 .last)) (q .until) (p .until) (q .dated-until) (p .dated-until) in
-    puts-once (i .1) 0 (summaryText (i .0) (p .date) (p .until)) x y (p .text)
-    (subst (λ (d : Date). Puts (i .1) 0 (summaryText (i .0) (p .date) d) (y .1) (y .0)) u
-    (subst (λ (d : Date). Puts (i .1) 0 (summaryText (i .0) d (q .until)) (y .1) (y .0)) e (q .text)))

@@ -1,3 +1,2 @@
 pub mod Inspect
 pub mod Break
-pub mod Summary

@@ -16,7 +16,7 @@ use Rattle.calendar.specs.declared.Date.{Date}
 use Rattle.calendar.proofs.Dates.{date-is}
 use Rattle.inspect_text.specs.Break.{breakText}
 use Rattle.inspect_text.specs.Inspect.{packetText, refusedText, Line}
-use Rattle.inspect_text.specs.Summary.{summaryText, Summary}
+use Rattle.summary_text.specs.Summary.{summaryText, Summary}
 use Rattle.mdi.specs.Reading.{readFor}
 use Rattle.mdi.specs.declared.Answer.{Answer}
 use Rattle.moves.specs.Moves.{Puts}

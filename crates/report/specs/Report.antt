@@ -8,7 +8,7 @@ use Rattle.laws.specs.Pick.{pick}
 use Rattle.calendar.specs.Dates.{dateOf}
 use Rattle.inspect_text.specs.Break.{breakText}
 use Rattle.inspect_text.specs.Inspect.{packetText, refusedText}
-use Rattle.inspect_text.specs.Summary.{summaryText}
+use Rattle.summary_text.specs.Summary.{summaryText}
 use Rattle.mdi.specs.Reading.{readFor}
 use Rattle.mdi.specs.declared.Answer.{Answer}
 use Rattle.record.specs.Records.{noRecord}

@@ -108,7 +108,7 @@ pub fn end(r: Report, summary: &mut [u8; 1024], refusal: &mut [u8; 1024]) -> Clo
     let w = r.walk;
     let s = r.seen;
     let t = s.tally;
-    let n = inspect_text::summary(t, summary);
+    let n = summary_text::summary(t, summary);
     let k = put_refusal(walk::end(w), refusal);
     Closed {
         summary: n,

@@ -1,4 +1,4 @@
--- `inspect_text::put_numbers` meets its contract. Assumes nothing.
+-- `summary_text::put_numbers` meets its contract. Assumes nothing.
 use mathlib.Core.Path.{_≡_, refl, ap, _∙_}
 use Prim.Native.Nat.{ℕ, _+_, _*_, _-_, _≤_}
 use native.Mathlib.Omega.{arith}
@@ -6,10 +6,10 @@ use lib.ListN.{length, take, drop}
 use borrow.Author.Needs.{needs}
 use Rattle.moves.specs.Moves.{Puts}
 use Rattle.moves.proofs.Pieces.{puts-same}
-use Rattle.inspect_text.specs.Summary.{numbersText}
-use Rattle.inspect_text.proofs.Numbers.{numbers-none, numbers-next}
-use Rattle.inspect_text.proofs.put_numbers.Statement.{statement}
-use Rattle.inspect_text.proofs.put_numbers.Tie as tie
+use Rattle.summary_text.specs.Summary.{numbersText}
+use Rattle.summary_text.proofs.Numbers.{numbers-none, numbers-next}
+use Rattle.summary_text.proofs.put_numbers.Statement.{statement}
+use Rattle.summary_text.proofs.put_numbers.Tie as tie
 
 abbrev Inv-loop : tie.InvT-loop
 Inv-loop ns out₀ at next₀ i₀ out next i = (i ≤ 11) × (next ≤ at + 51 * i) × Puts out₀ at (numbersText 1 (take i (drop 1 ns))) out next × (length out ≡ length out₀)

@@ -1,10 +1,10 @@
--- `inspect_text::put_times` meets its contract. Assumes nothing.
+-- `summary_text::put_times` meets its contract. Assumes nothing.
 use native.Mathlib.Omega.{arith}
-use Rattle.inspect_text.proofs.Numbers.{times-none, times-some}
+use Rattle.summary_text.proofs.Numbers.{times-none, times-some}
 use Rattle.line_text.proofs.Room.{fit}
 use borrow.Author.Needs.{needs}
-use Rattle.inspect_text.proofs.put_times.Statement.{statement}
-use Rattle.inspect_text.proofs.put_times.Tie as tie
+use Rattle.summary_text.proofs.put_times.Statement.{statement}
+use Rattle.summary_text.proofs.put_times.Tie as tie
 
 returns : tie.Need-returns
 returns c = (omega arith, times-none _ _ _ _ (c .if1 .taken))

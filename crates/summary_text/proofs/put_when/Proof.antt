@@ -1,11 +1,11 @@
--- `inspect_text::put_when` meets its contract. Assumes nothing.
+-- `summary_text::put_when` meets its contract. Assumes nothing.
 use native.Mathlib.Omega.{arith}
-use Rattle.inspect_text.specs.Summary.{whenText}
+use Rattle.summary_text.specs.Summary.{whenText}
 use Rattle.moves.proofs.Pieces.{puts-then}
 use Rattle.line_text.proofs.Room.{fit}
 use borrow.Author.Needs.{needs}
-use Rattle.inspect_text.proofs.put_when.Statement.{statement}
-use Rattle.inspect_text.proofs.put_when.Tie as tie
+use Rattle.summary_text.proofs.put_when.Statement.{statement}
+use Rattle.summary_text.proofs.put_when.Tie as tie
 
 word-requires : tie.Need-word-requires
 word-requires c κs = search needs

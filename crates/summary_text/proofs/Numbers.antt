@@ -11,7 +11,7 @@ use lib.Seq.{getD-drop}
 use Rattle.moves.specs.Moves.{Puts}
 use Rattle.moves.proofs.Pieces.{puts-none, puts-then, puts-same}
 use Rattle.line_text.specs.Decimal.{ascii, decimal}
-use Rattle.inspect_text.specs.Summary.{timesText, numbersText}
+use Rattle.summary_text.specs.Summary.{timesText, numbersText}
 
 pub times-some : {d e : List ℕ} {at n : ℕ} (k m : ℕ) → (m ≡ 0 → ⊥) → Puts d at (ascii "refused " ++ (decimal k ++ (ascii ": " ++ (decimal m ++ ascii "\n")))) e n
     → Puts d at (timesText k m) e n

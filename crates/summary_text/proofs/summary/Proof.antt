@@ -1,12 +1,12 @@
--- `inspect_text::summary` meets its contract. Assumes nothing.
+-- `summary_text::summary` meets its contract. Assumes nothing.
 use native.Mathlib.Omega.{arith}
 use Rattle.stamp_text.proofs.Ways.{dated-by}
-use Rattle.inspect_text.specs.Summary.{summaryText}
+use Rattle.summary_text.specs.Summary.{summaryText}
 use Rattle.moves.proofs.Pieces.{puts-then}
 use Rattle.line_text.proofs.Room.{fit}
 use borrow.Author.Needs.{needs}
-use Rattle.inspect_text.proofs.summary.Statement.{statement}
-use Rattle.inspect_text.proofs.summary.Tie as tie
+use Rattle.summary_text.proofs.summary.Statement.{statement}
+use Rattle.summary_text.proofs.summary.Tie as tie
 
 since-requires : tie.Need-since-requires
 since-requires c κs = search needs

@@ -1,10 +1,10 @@
--- `inspect_text::put_whens` meets its contract. Assumes nothing.
+-- `summary_text::put_whens` meets its contract. Assumes nothing.
 use native.Mathlib.Omega.{arith}
-use Rattle.inspect_text.specs.Summary.{whensText}
+use Rattle.summary_text.specs.Summary.{whensText}
 use Rattle.moves.proofs.Pieces.{puts-then}
 use borrow.Author.Needs.{needs}
-use Rattle.inspect_text.proofs.put_whens.Statement.{statement}
-use Rattle.inspect_text.proofs.put_whens.Tie as tie
+use Rattle.summary_text.proofs.put_whens.Statement.{statement}
+use Rattle.summary_text.proofs.put_whens.Tie as tie
 
 slice-aggregate-put-when : tie.Need-slice-aggregate-put-when
 slice-aggregate-put-when c = search needs
