@@ -1,11 +1,10 @@
 -- Each promise settles its call: two outcomes that meet it for the same input are equal (01, "Acceptance of the promises"). Assumes nothing.
-use Prim.Native.Nat.{ℕ}
 use mathlib.Core.Path.{_≡_}
 use mathlib.Core.Bool.{Bool}
 use Rattle.laws.specs.Settle.{Settles}
 use Rattle.laws.proofs.Settle.{settled}
 use Rattle.tally.specs.declared.Tally.{Tally}
-use Rattle.tally.specs.Tally.{noTally, countedFor, placeFor}
+use Rattle.tally.specs.Tally.{noTally, countedFor}
 use Rattle.mdi.specs.declared.Answer.{Answer}
 
 pub none : Settles (λ (i : Unit {0}) (r : Tally). r ≡ noTally)
@@ -13,6 +12,3 @@ none = settled (λ i. noTally)
 
 pub count : Settles (λ (i : Tally × Answer × Bool) (r : Tally). r ≡ countedFor (i .0) (i .1) (i .2))
 count = settled (λ i. countedFor (i .0) (i .1) (i .2))
-
-pub place : Settles (λ (i : ℕ × ℕ × ℕ) (r : ℕ). r ≡ placeFor (i .0) (i .1) (i .2))
-place = settled (λ i. placeFor (i .0) (i .1) (i .2))

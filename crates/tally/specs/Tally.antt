@@ -1,7 +1,6 @@
 -- What is counted over a recording (01, "Clock and recordings"). Assumes nothing.
 use Prim.Native.Nat.{ℕ, _+_, _%_, _^_}
 use mathlib.Core.Bool.{Bool}
-use lib.Dec.{eqb}
 use lib.ListN.{getD, set, replicate}
 use Rattle.laws.specs.Pick.{pick}
 use Rattle.mdi.specs.declared.Answer.{Answer}
@@ -33,7 +32,3 @@ countedFor t a broke = record {
   first = earlier (t .first) (a .content .time);
   last = earlier (a .content .time) (t .last);
 }
-
--- the place in the file of a refusal in a window that begins at an offset
-unfoldable pub placeFor : ℕ → ℕ → ℕ → ℕ
-placeFor at number place = pick (eqb number 2) ((at + place) % 2 ^ 64) 0

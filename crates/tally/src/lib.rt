@@ -3,7 +3,7 @@
 use mdi::Answer;
 use record::Time;
 ghost use mathlib.Core.Path.{_≡_};
-ghost use Rattle.tally.specs.Tally.{noTally, earlier, moreFor, placeFor, countedFor};
+ghost use Rattle.tally.specs.Tally.{noTally, earlier, moreFor, countedFor};
 
 // `numbers` has for each number that `mdi::read` gives, 0 to 11, how many packets got it: 0 is a packet that was read. Counts wrap at 2^64.
 pub struct Tally {
@@ -69,14 +69,4 @@ pub fn count(t: Tally, a: Answer, broke: bool) -> Tally
         first,
         last,
     }
-}
-
-// Where in the file a refusal stands that was found in a window of it: 2 has a place, the others have none.
-pub fn place(at: u64, number: u32, place: u64) -> u64
-    ensures { λ r. ⌜ r ≡ placeFor at number place ⌝ }
-{
-    if number == 2 {
-        return std::num::wrapping_add_u64(at, place);
-    }
-    0
 }
