@@ -39,7 +39,7 @@ flag-fits : (b : Bool) → flag b < 2
 flag-fits true = lit< tt
 flag-fits false = lit< tt
 
-flag-back : (b : Bool) → eqb (flag b) 1 ≡ b
+pub flag-back : (b : Bool) → eqb (flag b) 1 ≡ b
 flag-back true = refl
 flag-back false = refl
 
