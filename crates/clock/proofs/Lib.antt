@@ -4,4 +4,5 @@ pub mod Examples
 pub mod Fit
 pub mod Later
 pub mod Successor
+pub mod RoundTrip
 pub mod Settled

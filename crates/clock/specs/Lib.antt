@@ -1,3 +1,4 @@
 pub mod Follows
 pub mod Next
+pub mod RoundTrip
 pub mod Stamps
