@@ -1,2 +1,3 @@
 pub mod Recording
 pub mod Walk
+pub mod Walked
