@@ -5,4 +5,5 @@ pub mod Writing
 pub mod Meaning
 pub mod Back
 pub mod RoundTrips
+pub mod RoundTripHolds
 pub mod Settled

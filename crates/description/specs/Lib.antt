@@ -2,3 +2,4 @@ pub mod Answers
 pub mod Bytes
 pub mod WellFormed
 pub mod AnnexC
+pub mod RoundTrip
