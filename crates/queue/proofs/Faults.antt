@@ -2,7 +2,7 @@
 use Prim.Native.Nat.{ℕ, zero, suc, _+_, _%_, _<_, _≤_}
 use mathlib.Core.Path.{_≡_, refl, sym, ap, _∙_}
 use mathlib.Core.List.{List, [], _∷_}
-use mathlib.Core.Bool.{Bool, true, false, _&&_}
+use mathlib.Core.Bool.{Bool, true, false, not, _&&_, _||_}
 use native.Mathlib.Nat.{mod-zero}
 use native.Mathlib.Omega.{arith}
 use borrow.Author.Tests.{eq-eqb, ne-eqb, lt-ltb, le-ltb, eqb-true, eqb-false, ltb-false, not-false}
@@ -118,6 +118,17 @@ sound-of p q l8 e =
           ltb-false 4096 (getD (q .left) 0 0 + q .sent)
           (sym (over-first (q .sent) (units q) b (f .1) ∙ ap (λ (x : ℕ). ltb 4096 (x + q .sent)) (f .0)) ∙ h .1);
     }
+
+-- the unsent bytes alone, where the array's length is not at hand
+pub fine-bytes : (p : ℕ) (q : Queue) → broken p q ≡ false → unsent q ≤ 4096
+unfolding broken
+fine-bytes p q e =
+    let A = ltb 8 (q .count) || anyEmpty (units q) || anyOver 4096 (lengths (q .sent) (units q)) in
+    let B = A || ltb 4096 (unsent q) in
+    let C = B || not (eqb (q .sent % p) 0) in
+    let c = or-false C (eqb (q .count) 0 && ltb 0 (q .sent)) e in
+    let b = or-false B (not (eqb (q .sent % p) 0)) (c .0) in
+    ltb-false 4096 (unsent q) (or-false A (ltb 4096 (unsent q)) (b .0) .1)
 
 pub sound-ok : (p : ℕ) (q : Queue) → Sound p q → broken p q ≡ false
 unfolding broken unsent

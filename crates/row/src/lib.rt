@@ -8,7 +8,7 @@ ghost use Rattle.packet.specs.Calls.{outFor};
 ghost use Rattle.packet.specs.Packet.{packetOf};
 ghost use Rattle.row.specs.Row.{Whole, stepped, packetAt, steps, outs, fits, rowFor, rowOut};
 
-// Where the writing of a queue's packets stands: what is left, how many of its bytes are read, and the next index.
+// Where the writing of a queue's packets stands: what is left, the place in the region from which it is read, and the next index.
 pub struct Out {
     pub q: Queue,
     pub at: usize,
@@ -21,7 +21,7 @@ fn wide(x: u16) -> usize
     x as usize
 }
 
-// A packet whose n useful bytes stand in the region from place at on: all that is read of a queue's part of the store.
+// A packet whose n useful bytes stand in the region from place at on: all that is read of a region.
 fn write_from(
     p: usize,
     first: bool,
@@ -39,7 +39,7 @@ fn write_from(
     packet::write(p, first, last, id, index, &region[at..at + n], dst);
 }
 
-// The next packet, read from the queue's part of the store.
+// The next packet, read from the region.
 fn step_out(o: Out, p: u16, id: u8, region: &[u8], dst: &mut [u8]) -> Out
     requires { ⌜ Whole p o (length (now region)) × (id < 4) × (1 ≤ p) × (p ≤ 255) × (length (now dst) ≡ p + 3) ⌝ }
     ensures { λ r. ⌜ r ≡ stepped p o ⌝ }
@@ -59,10 +59,10 @@ fn step_out(o: Out, p: u16, id: u8, region: &[u8], dst: &mut [u8]) -> Out
     }
 }
 
-// Whether there is such a row: p, id and index within their bits, a queue without the faults of refusal 17, its whole part of the store,
-// and room for n packets.
-fn is_fit(q: Queue, index: u8, p: u8, id: u8, n: usize, room: usize, size: usize) -> bool
-    ensures { λ r. ⌜ r ≡ fits p id n q index room size ⌝ }
+// Whether there is such a row: p, id and index within their bits, a queue without the faults of refusal 17, its unsent bytes within the
+// region from place at on, and room for n packets.
+fn is_fit(q: Queue, index: u8, p: u8, id: u8, n: usize, room: usize, at: usize, size: usize) -> bool
+    ensures { λ r. ⌜ r ≡ fits p id n q index room at size ⌝ }
 {
     if p == 0 {
         return false;
@@ -76,7 +76,10 @@ fn is_fit(q: Queue, index: u8, p: u8, id: u8, n: usize, room: usize, size: usize
     if q.is_broken(p) {
         return false;
     }
-    if room != 4096 {
+    if room < at {
+        return false;
+    }
+    if room - at < q.unsent() {
         return false;
     }
     n <= size / (p as usize + 3)
@@ -100,17 +103,27 @@ fn write_row(o: Out, p: u16, id: u8, n: usize, region: &[u8], dst: &mut [u8]) ->
     r
 }
 
-// The same. Where there is no such row, nothing is written and the queue stays as it is.
-pub fn row(q: Queue, index: u8, p: u8, id: u8, n: usize, region: &[u8], dst: &mut [u8]) -> Out
-    ensures { λ r. ⌜ r ≡ rowFor p id n q index (length (now (region .entry))) (length (now (dst .entry))) ⌝ }
-    ensures { λ _. ⌜ now (dst .exit) ≡ rowOut p id n q index (now (region .entry)) (now (dst .entry)) ⌝ }
+// The same, for any region, in which the unsent bytes of the queue stand from place at on. Where there is no such row, nothing is written
+// and the queue stays as it is.
+pub fn row(
+    q: Queue,
+    index: u8,
+    p: u8,
+    id: u8,
+    n: usize,
+    region: &[u8],
+    at: usize,
+    dst: &mut [u8],
+) -> Out
+    ensures { λ r. ⌜ r ≡ rowFor p id n q index (length (now (region .entry))) at (length (now (dst .entry))) ⌝ }
+    ensures { λ _. ⌜ now (dst .exit) ≡ rowOut p id n q index (now (region .entry)) at (now (dst .entry)) ⌝ }
 {
     let o = Out {
         q: q,
-        at: 0,
+        at: at,
         index: index,
     };
-    if !is_fit(q, index, p, id, n, region.len(), dst.len()) {
+    if !is_fit(q, index, p, id, n, region.len(), at, dst.len()) {
         return o;
     }
     write_row(o, p as u16, id, n, region, dst)

@@ -27,7 +27,7 @@ use Rattle.moves.specs.Moves.{pulled}
 use Rattle.moves.proofs.Parts.{tail-written}
 use Rattle.queue.specs.Queue.{unsent, broken, noUnits}
 use Rattle.queue.specs.declared.Queue.{Queue}
-use Rattle.queue.proofs.Faults.{sound-ok}
+use Rattle.queue.proofs.Faults.{sound-ok, fine-bytes}
 use Rattle.queue.proofs.Keep.{none-sound}
 use Rattle.row.specs.Row.{headLen, popped, packetAt, stepped, steps, outs, startOf, fits, rowFor, rowOut}
 use Rattle.row.specs.declared.Out.{Out}
@@ -44,16 +44,16 @@ use Rattle.sender.proofs.Faults.{Fine, fine-of}
 
 -- ---- a row into the frame from an offset on
 row-into : (p id n : ℕ) (q : Queue) (index : ℕ) (region out : List ℕ) (at m : ℕ) → at ≤ length out → m ≡ length out - at
-    → Fit p id n q index (length region) (length out - at) → (r : Out) (y : List ℕ)
-    → r ≡ rowFor p id n q index (length region) (length (take m (drop at out))) → y ≡ rowOut p id n q index region (take m (drop at out))
+    → Fit p id n q index (length region) 0 (length out - at) → (r : Out) (y : List ℕ)
+    → r ≡ rowFor p id n q index (length region) 0 (length (take m (drop at out))) → y ≡ rowOut p id n q index region 0 (take m (drop at out))
     → (r ≡ steps p n (startOf q index)) × (take at out ++ (y ++ drop m (drop at out)) ≡ written out at (outs p id region n (startOf q index)))
 unfolding rowFor rowOut
 row-into p id n q index region out at m h em f r y er ey =
     let xs = outs p id region n (startOf q index) in
     let t : take m (drop at out) ≡ drop at out = take-all m (drop at out) (omega (arith, length-drop at out)) in
-    let b : fits p id n q index (length region) (length out - at) ≡ true = fit-back p id n q index (length region) (length out - at) f in
-    let c : fits p id n q index (length region) (length (take m (drop at out))) ≡ true =
-    ap (λ (l : List ℕ). fits p id n q index (length region) (length l)) t ∙ ap (fits p id n q index (length region)) (length-drop at out) ∙ b in
+    let b : fits p id n q index (length region) 0 (length out - at) ≡ true = fit-back p id n q index (length region) 0 (length out - at) f in
+    let c : fits p id n q index (length region) 0 (length (take m (drop at out))) ≡ true =
+    ap (λ (l : List ℕ). fits p id n q index (length region) 0 (length l)) t ∙ ap (fits p id n q index (length region) 0) (length-drop at out) ∙ b in
     let z : y ≡ written (drop at out) 0 xs =
     ey ∙ ap (λ (x : Bool). pick x (written (take m (drop at out)) 0 xs) (take m (drop at out))) c ∙ ap (λ (l : List ℕ). written l 0 xs) t in
     (er ∙ ap (λ (x : Bool). pick x (steps p n (startOf q index)) (startOf q index)) c, tail-written out y xs at m (omega arith) z)
@@ -70,8 +70,8 @@ fine-queue p s (suc (suc (suc id))) h f = absurd (omega arith)
 
 pub row-at-is : (p id n : ℕ) (s : Front) (store out : List ℕ) (at k m b : ℕ) → id < 3 → Ready p s (length store) → at + n * (p + 3) ≤ length out
     → k ≡ 4096 → m ≡ length out - at → b ≡ id * 4096 → (r : Out) (y : List ℕ)
-    → r ≡ rowFor p id n (queueOf s id) (indexOf s id) (length (take k (drop b store))) (length (take m (drop at out)))
-    → y ≡ rowOut p id n (queueOf s id) (indexOf s id) (take k (drop b store)) (take m (drop at out))
+    → r ≡ rowFor p id n (queueOf s id) (indexOf s id) (length (take k (drop b store))) 0 (length (take m (drop at out)))
+    → y ≡ rowOut p id n (queueOf s id) (indexOf s id) (take k (drop b store)) 0 (take m (drop at out))
     → (r ≡ endOf p s id n) × (take at out ++ (y ++ drop m (drop at out)) ≡ written out at (rowAt p s store id n))
 unfolding rowAt
 row-at-is p id n s store out at k m b hid k0 room ek em eb r y er ey =
@@ -79,10 +79,11 @@ row-at-is p id n s store out at k m b hid k0 room ek em eb r y er ey =
     let l : length (partOf store id) ≡ 4096 = part-length store id hid (k0 .whole) in
     let f = fine-queue p s id hid (fine-of p s (k0 .fine)) in
     let i = f .1 in
+    let u = fine-bytes p (queueOf s id) (f .0) in
     row-into p id n (queueOf s id) (indexOf s id) (partOf store id) out at m (omega arith) em
-    (record { low = k0 .low; id-in = omega arith; index-in = omega arith; fine = f .0; part = l; fits-in = omega arith }) r y
-    (er ∙ ap (λ (x : List ℕ). rowFor p id n (queueOf s id) (indexOf s id) (length x) (length (take m (drop at out)))) g)
-    (ey ∙ ap (λ (x : List ℕ). rowOut p id n (queueOf s id) (indexOf s id) x (take m (drop at out))) g)
+    (record { low = k0 .low; id-in = omega arith; index-in = omega arith; fine = f .0; inside = omega arith; fits-in = omega arith }) r y
+    (er ∙ ap (λ (x : List ℕ). rowFor p id n (queueOf s id) (indexOf s id) (length x) 0 (length (take m (drop at out)))) g)
+    (ey ∙ ap (λ (x : List ℕ). rowOut p id n (queueOf s id) (indexOf s id) x 0 (take m (drop at out))) g)
 
 -- ---- filler
 module _ (p i : ℕ) (region : List ℕ) (h : i < 8) where
@@ -105,8 +106,8 @@ module _ (p i : ℕ) (region : List ℕ) (h : i < 8) where
 
 pub filler-at-is : (p n : ℕ) (s : Front) (store out : List ℕ) (at m : ℕ) (q : Queue) → Ready p s (length store) → at + n * (p + 3) ≤ length out → m ≡ length out - at
     → q ≡ noUnits → (r : Out) (y : List ℕ)
-    → r ≡ rowFor p 3 n q (indexOf s 3) (length (take 4096 (drop 0 store))) (length (take m (drop at out)))
-    → y ≡ rowOut p 3 n q (indexOf s 3) (take 4096 (drop 0 store)) (take m (drop at out))
+    → r ≡ rowFor p 3 n q (indexOf s 3) (length (take 4096 (drop 0 store))) 0 (length (take m (drop at out)))
+    → y ≡ rowOut p 3 n q (indexOf s 3) (take 4096 (drop 0 store)) 0 (take m (drop at out))
     → (r .index ≡ (indexOf s 3 + n) % 8) × (take at out ++ (y ++ drop m (drop at out)) ≡ written out at (nulls p (indexOf s 3) n))
 filler-at-is p n s store out at m q k0 room em eq r y er ey =
     let region = take 4096 (drop 0 store) in
@@ -115,9 +116,9 @@ filler-at-is p n s store out at m q k0 room em eq r y er ey =
     let h : indexOf s 3 < 8 = omega arith in
     let k =
     row-into p 3 n noUnits (indexOf s 3) region out at m (omega arith) em
-    (record { low = k0 .low; id-in = lit< tt; index-in = h; fine = sound-ok p noUnits (none-sound p); part = l; fits-in = omega arith }) r y
-    (er ∙ ap (λ (x : Queue). rowFor p 3 n x (indexOf s 3) (length region) (length (take m (drop at out)))) eq)
-    (ey ∙ ap (λ (x : Queue). rowOut p 3 n x (indexOf s 3) region (take m (drop at out))) eq) in
+    (record { low = k0 .low; id-in = lit< tt; index-in = h; fine = sound-ok p noUnits (none-sound p); inside = let u = none-sound p .bytes in omega arith; fits-in = omega arith }) r y
+    (er ∙ ap (λ (x : Queue). rowFor p 3 n x (indexOf s 3) (length region) 0 (length (take m (drop at out)))) eq)
+    (ey ∙ ap (λ (x : Queue). rowOut p 3 n x (indexOf s 3) region 0 (take m (drop at out))) eq) in
     (ap (λ (o : Out). o .index) (k .0 ∙ null-steps p (indexOf s 3) region h n), k .1 ∙ ap (written out at) (null-outs p (indexOf s 3) region h n))
 
 -- ---- the rows one behind the other

@@ -193,6 +193,7 @@ impl Front {
             id as u8,
             n,
             &store[b..b + 4096],
+            0,
             &mut out[at..],
         )
     }
@@ -205,7 +206,7 @@ impl Front {
     {
         let q = Queue::fresh();
         let index = self.index[3];
-        let o = row::row(q, index, p, 3, n, &store[0..4096], &mut out[at..]);
+        let o = row::row(q, index, p, 3, n, &store[0..4096], 0, &mut out[at..]);
         o.index
     }
 
