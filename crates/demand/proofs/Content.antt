@@ -111,7 +111,7 @@ module _ (p : ℕ) (hp : 1 ≤ p) (region : List ℕ) (l : length region ≡ 409
         let s = drop (o .at) region in
         let m : headLen p (o .q) ≡ min x p = headLen-is p (o .q) ∙ ap (λ (k : List ℕ). min (getD k 0 0) p) e in
         let t : take (min x p) s ≡ take p (take x s) = take-min x p s in
-        rw (e, first-left, lx, m, t, not-not (eqb (o .q .sent) 0))
+        rw (e, lx, m, t, not-not (eqb (o .q .sent) 0))
 
     begun-after : begunIn (stepped p o .q) ≡ begunOf p (contentOf (o .q) (drop (o .at) region))
     unfolding stepped popped dropFirst begunIn begunOf cut contentOf

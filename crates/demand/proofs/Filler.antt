@@ -13,7 +13,7 @@ use Rattle.laws.specs.Written.{written}
 use Rattle.hand.specs.declared.Settings.{Settings}
 use Rattle.hand.proofs.Allowed.{allowed}
 use Rattle.packet.specs.Packet.{Chunk, Packet, nothing}
-use Rattle.queue.specs.Queue.{noUnits}
+use Rattle.queue.specs.Queue.{units, noUnits}
 use Rattle.queue.specs.declared.Queue.{Queue}
 use Rattle.row.specs.Row.{headLen, popped, stepped, steps, startOf}
 use Rattle.sender.specs.State.{indexOf, putQueue}
@@ -45,7 +45,7 @@ module _ (p i : ℕ) where
   null-chunk n =
       let o = steps p n (startOf noUnits i) in
       let F : Queue → List ℕ → Chunk =
-      λ (q : Queue) (d : List ℕ). record { first = eqb (q .sent) 0; last = leb (getD (q .left) 0 0) p; body = take (headLen p q) d } in
+      λ (q : Queue) (d : List ℕ). record { first = eqb (q .sent) 0; last = leb (getD (units q) 0 0) p; body = take (headLen p q) d } in
       let G : Bool → Chunk = λ (b : Bool). record { first = true; last = b; body = [] } in
       ap₂ F (none-steps n) (drop-nil {A = ℕ} (o .at)) ∙ ap G (le-leb 0 p (omega arith))
 

@@ -17,7 +17,7 @@ use Rattle.hand.proofs.Answer.{hand-total}
 use Rattle.packet.specs.Packet.{Chunk, Packet, decode}
 use Rattle.packet.specs.Calls.{checkFor}
 use Rattle.packet.proofs.Round.{Says, round}
-use Rattle.queue.specs.Queue.{noUnits}
+use Rattle.queue.specs.Queue.{units, noUnits}
 use Rattle.queue.proofs.Keep.{none-sound}
 use Rattle.row.specs.Row.{headLen, packetAt, stepped, steps, outs, startOf, Whole}
 use Rattle.row.specs.declared.Out.{Out}
@@ -39,7 +39,7 @@ packetsIn p n s = readable p (split (p + 3) n s)
 -- what the next packet says
 abbrev pub chunkAt : ℕ → List ℕ → Out → Chunk
 chunkAt p region o =
-    record { first = eqb (o .q .sent) 0; last = leb (getD (o .q .left) 0 0) p; body = take (headLen p (o .q)) (drop (o .at) region) }
+    record { first = eqb (o .q .sent) 0; last = leb (getD (units (o .q)) 0 0) p; body = take (headLen p (o .q)) (drop (o .at) region) }
 
 abbrev pub packetFor : ℕ → ℕ → List ℕ → Out → Packet
 packetFor p id region o = record { id = id; index = o .index; chunk = chunkAt p region o }

@@ -2,10 +2,11 @@
 use queue::Queue;
 ghost use mathlib.Core.Path.{_≡_};
 ghost use Prim.Native.Nat.{_+_, _*_, _≤_, _<_};
-ghost use lib.ListN.{length, take, drop};
+ghost use lib.ListN.{length, getD, take, drop};
 ghost use Rattle.laws.specs.Written.{written};
 ghost use Rattle.packet.specs.Calls.{outFor};
 ghost use Rattle.packet.specs.Packet.{packetOf};
+ghost use Rattle.queue.specs.Queue.{units};
 ghost use Rattle.row.specs.Row.{Whole, stepped, packetAt, steps, outs, fits, rowFor, rowOut};
 
 // Where the writing of a queue's packets stands: what is left, the place in the region from which it is read, and the next index.
@@ -39,6 +40,16 @@ fn write_from(
     packet::write(p, first, last, id, index, &region[at..at + n], dst);
 }
 
+// The bytes left of the first unit; 0 where there is none, whatever stands behind the count.
+fn first_left(q: Queue) -> u16
+    ensures { λ r. ⌜ r ≡ getD (units q) 0 0 ⌝ }
+{
+    if q.count == 0 {
+        return 0;
+    }
+    q.left[0]
+}
+
 // The next packet, read from the region.
 fn step_out(o: Out, p: u16, id: u8, region: &[u8], dst: &mut [u8]) -> Out
     requires { ⌜ Whole p o (length (now region)) × (id < 4) × (1 ≤ p) × (p ≤ 255) × (length (now dst) ≡ p + 3) ⌝ }
@@ -48,7 +59,7 @@ fn step_out(o: Out, p: u16, id: u8, region: &[u8], dst: &mut [u8]) -> Out
     let at = o.at;
     let q = o.q;
     let index = o.index;
-    let x = q.left[0];
+    let x = first_left(q);
     let w = wide(p);
     let n = q.head_len(w);
     write_from(w, q.sent == 0, x <= p, id, index, region, at, n, dst);

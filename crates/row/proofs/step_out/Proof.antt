@@ -4,8 +4,8 @@ use Rattle.row.proofs.Steps.{step-is}
 use Rattle.row.proofs.step_out.Statement.{statement}
 use Rattle.row.proofs.step_out.Tie as tie
 
-element-copy-out-x : tie.Need-element-copy-out-x
-element-copy-out-x c = search needs
+first-left-requires : tie.Need-first-left-requires
+first-left-requires c κs = search needs
 
 wide-requires : tie.Need-wide-requires
 wide-requires c κs = search needs
@@ -19,11 +19,11 @@ write-from-requires c κs = search needs
 pop-requires : tie.Need-pop-requires
 pop-requires c κs = search needs
 
-add-t17 : tie.Need-add-t17
-add-t17 c = search needs
+add-t18 : tie.Need-add-t18
+add-t18 c = search needs
 
-add-t23 : tie.Need-add-t23
-add-t23 c = search needs
+add-t19 : tie.Need-add-t19
+add-t19 c = search needs
 
 same-length : tie.Need-same-length
 same-length c = search needs
@@ -31,21 +31,22 @@ same-length c = search needs
 returns : tie.Need-returns
 returns c =
     let w = c .before .before .before in
-    let h = w .before .before in
-    let g = h .before .before .before .before .before .before in
-    step-is _ _ _ _ (g .args .o) (g .args .region .now) (g .args .dst .now) _ _ (g .pre .2) (g .pre .3) (g .pre .1) (g .pre .0 .index)
+    let h = w .before .before .before in
+    let f = h .before .before in
+    let g = f .before .before .before .before in
+    step-is _ _ _ _ _ (g .args .o) (g .args .region .now) (g .args .dst .now) _ _ (f .first-left .ensures) (g .pre .2) (g .pre .3) (g .pre .1) (g .pre .0 .index)
     (h .before .wide .ensures .0) (h .head-len .ensures .0) (g .pre .0 .far) (c .pop .ensures) (g .pre .4) (w .write-from .ensures)
 
 pub step-out-spec : {M : Type 1} → statement M
 step-out-spec =
     tie.close
     (tie.spec
-    element-copy-out-x
+    first-left-requires
     wide-requires
     head-len-requires
     write-from-requires
     pop-requires
-    add-t17
-    add-t23
+    add-t18
+    add-t19
     same-length
     returns)
