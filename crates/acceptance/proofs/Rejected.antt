@@ -11,7 +11,7 @@ use Rattle.hand.specs.Hand.{give, free, giveFirst, giveOne, spread, handOut, pl
 use Rattle.hand.specs.Settings.{unfit, settingsTests, settingsFor}
 use Rattle.hand.specs.declared.Settings.{Settings}
 use Rattle.hand.specs.declared.Three.{Three}
-use Rattle.queue.specs.Queue.{addUp, packets, unsent, waiting, lengths, anyEmpty, anyOver, broken, noUnits, pushed}
+use Rattle.queue.specs.Queue.{addUp, packets, unsent, waits, waiting, lengths, anyEmpty, anyOver, broken, noUnits, pushed}
 use Rattle.moves.specs.Moves.{pulled}
 use Rattle.packet.specs.Packet.{headOf, padded, dataOf, plainOf, sealed, encode, bodyOf, decode}
 use Rattle.row.specs.Row.{headLen, dropFirst, popped, packetAt, stepped, steps, outs}
@@ -81,7 +81,7 @@ two-frames : (frames.frameFor small (busy .front) store frame .number ≡ 0) × 
     × (frames.frameFor small (left .front) left-store left-frame .number ≡ 0) × (firstId 1 (frames.outFor small (left .front) left-store left-frame) ≡ 0)
 unfolding frames.frameFor frames.frameNumber frames.frameTests frames.framed frames.outFor frames.frameBytes frames.framePackets frames.rowAt frames.nulls
     frames.handOf frames.endsOf frames.nextFrom frames.storeAfter frames.closedAll frames.closed pulled states.fresh
-    settingsFor settingsTests unfit brokenState broken anyEmpty anyOver lengths unsent addUp waitingOf waiting packets
+    settingsFor settingsTests unfit brokenState broken anyEmpty anyOver lengths unsent addUp waitingOf waiting waits packets
     give free giveFirst giveOne spread handOut planFor handFor written steps outs stepped packetAt headLen popped dropFirst
     encode plainOf headOf dataOf sealed bytesOf decode
 two-frames = (refl, refl, refl, refl)

@@ -12,8 +12,7 @@ use Rattle.hand.specs.Hand.{give, free, giveFirst, giveOne, spread, handOut, ta
 use Rattle.hand.specs.declared.Settings.{Settings}
 use Rattle.packet.specs.Packet.{packetOf, headOf, padded, dataOf, plainOf, sealed, encode, bodyOf, decode}
 use Rattle.packet.specs.Calls.{wrongWord, wrongCount, testsFor, checkFor}
-use Rattle.queue.specs.Queue.{addUp, packets, unsent, waiting, lengths, anyEmpty, anyOver, broken, pushed}
-use Rattle.queue.specs.Send.{waits}
+use Rattle.queue.specs.Queue.{addUp, packets, unsent, waiting, lengths, anyEmpty, anyOver, broken, pushed, waits}
 use Rattle.row.specs.Content.{restOf, rests}
 use Rattle.row.specs.Row.{headLen, dropFirst, popped, packetAt, stepped, steps, outs}
 use Rattle.sender.specs.State.{fresh, brokenState, putQueue, waitingOf}
@@ -38,7 +37,7 @@ three =
 
 -- two packets of id 1 and a null packet
 pub packets-sent : sentOf (log acts (freshDesk (replicate 12288 0))) ≡ three
-unfolding written bytesOf shift feed bitsOf bitsOfAll crcOf unfit settingsTests settingsFor give free giveFirst giveOne spread handOut taker takers countOf spareIds planFor handFor headOf dataOf plainOf sealed encode addUp packets unsent waiting lengths anyEmpty anyOver broken pushed headLen dropFirst popped packetAt stepped steps outs fresh brokenState putQueue waitingOf full loadTests loadNumber loaded placedIn loadFor storeFor handOf rowAt nulls framePackets frameTests frameNumber frameBytes frameFor framed outFor after split answer answers events gather packetsOf
+unfolding written bytesOf shift feed bitsOf bitsOfAll crcOf unfit settingsTests settingsFor give free giveFirst giveOne spread handOut taker takers countOf spareIds planFor handFor headOf dataOf plainOf sealed encode addUp packets unsent waits waiting lengths anyEmpty anyOver broken pushed headLen dropFirst popped packetAt stepped steps outs fresh brokenState putQueue waitingOf full loadTests loadNumber loaded placedIn loadFor storeFor handOf rowAt nulls framePackets frameTests frameNumber frameBytes frameFor framed outFor after split answer answers events gather packetsOf
 packets-sent = refl
 
 -- seen from outside: behind the load two packets wait, and behind the frame none

@@ -8,8 +8,7 @@ use native.Mathlib.Omega.{arith}
 use borrow.Author.Tests.{ltb-false}
 use lib.Dec.{ltb}
 use lib.ListN.{length, take, List·getD-eq-default}
-use Rattle.queue.specs.Queue.{addUp, packets}
-use Rattle.queue.specs.Send.{waits}
+use Rattle.queue.specs.Queue.{addUp, packets, waits}
 use Rattle.row.specs.Content.{chunks, rests}
 use Rattle.receiver.specs.declared.Link.{Link}
 use Rattle.receiver.specs.Link.{brokenLink, noLink}

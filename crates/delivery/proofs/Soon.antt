@@ -10,7 +10,8 @@ use lib.Seq.{take-at, take-take}
 use Rattle.laws.specs.Pick.{pick}
 use Rattle.hand.specs.declared.Settings.{Settings}
 use Rattle.packet.specs.Packet.{Packet}
-use Rattle.queue.specs.Send.{waits, AllPos}
+use Rattle.queue.specs.Queue.{waits}
+use Rattle.queue.specs.Send.{AllPos}
 use Rattle.row.specs.Content.{rests}
 use Rattle.demand.specs.Bytes.{ofId, saying}
 use Rattle.demand.specs.Run.{load, Answer}

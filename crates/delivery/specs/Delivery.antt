@@ -5,12 +5,12 @@ use mathlib.Core.Path.{_≡_}
 use mathlib.Core.List.{List, [], _∷_, _++_}
 use mathlib.Core.Bool.{false}
 use lib.ListN.{length, take, drop, replicate}
-use Rattle.queue.specs.Queue.{addUp, same}
+use Rattle.queue.specs.Queue.{addUp, same, over}
 use Rattle.row.specs.Content.{chunks, rests}
 use Rattle.demand.specs.Bytes.{ofId, numbered}
 use Rattle.demand.specs.Run.{load}
 use Rattle.demand.specs.Log.{Event, acceptedOf, sentOf, sharesOf}
-use Rattle.demand.specs.Condition.{Taken, waitingWith, piecesOf, over}
+use Rattle.demand.specs.Condition.{Taken, waitingWith, piecesOf}
 use Rattle.demand.specs.Stream.{Fair}
 use Rattle.delivery.specs.Delivered.{Ear, freshEar, deliveredOf}
 use Rattle.delivery.specs.Whole.{whollySent, deliveredIn, pendingIn}

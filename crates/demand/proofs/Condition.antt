@@ -12,7 +12,7 @@ use Rattle.hand.specs.Settings.{at, total, Allowed}
 use Rattle.hand.specs.declared.Settings.{Settings}
 use Rattle.queue.specs.Queue.{addUp, same, packets, units, unsent}
 use Rattle.queue.specs.Send.{shares}
-use Rattle.queue.proofs.Sending.{ceil-le}
+use Rattle.queue.proofs.Sending.{over-le}
 use Rattle.sender.specs.State.{queueOf, waitingOf, brokenState}
 use Rattle.sender.specs.Load.{full, loadTests, loadNumber}
 use Rattle.sender.specs.Frame.{handOf}
@@ -184,7 +184,7 @@ module _ (p : ℕ) (acts : List Act) (store : List ℕ) (hs : length store ≡ 1
         share = shared;
         ceiling = capped;
         filler = filled;
-        delay = λ u s n ls e l. by-sum u (omega (arith, ap (addUp same) e, sum-same n s, ceil-le (waitingWith p u) s n ls l));
+        delay = λ u s n ls e l. by-sum u (omega (arith, ap (addUp same) e, sum-same n s, over-le (waitingWith p u) s n ls l));
         by-shares = by-sum;
         never-17 = λ c e n. never-17 p (at-call c .desk) (at-call c .seen .good) (c .act) e (number-at c ∙ n);
         frames = λ c g out a e. sym (number-at c) ∙ ap (λ (i : Act). numberOf i (at-call c .desk)) a ∙ frame-refused-for p (at-call c .desk) (at-call c .seen .good) g out e;

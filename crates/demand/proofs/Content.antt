@@ -10,8 +10,8 @@ use lib.ListN.{length, take, drop, getD, length-take, length-drop}
 use lib.Seq.{take-all, take-take, drop-drop, take-add, drop-at, length-take-le}
 use Rattle.laws.specs.Pick.{pick}
 use Rattle.packet.specs.Packet.{Chunk}
-use Rattle.queue.specs.Queue.{addUp, same, units, unsent}
-use Rattle.queue.specs.Send.{one, waits}
+use Rattle.queue.specs.Queue.{addUp, same, units, unsent, waits}
+use Rattle.queue.specs.Send.{one}
 use Rattle.queue.specs.declared.Queue.{Queue}
 use Rattle.queue.proofs.Sending.{waits-send}
 use Rattle.row.specs.Row.{headLen, popped, dropFirst, stepped, steps, Whole}

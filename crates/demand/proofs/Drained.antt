@@ -8,8 +8,8 @@ use lib.Dec.{leb}
 use lib.ListN.{length, drop}
 use Rattle.laws.specs.Pick.{pick}
 use Rattle.packet.specs.Packet.{Chunk}
-use Rattle.queue.specs.Queue.{addUp, packets}
-use Rattle.queue.specs.Send.{send, waits, AllPos}
+use Rattle.queue.specs.Queue.{addUp, packets, waits}
+use Rattle.queue.specs.Send.{send, AllPos}
 use Rattle.queue.proofs.Sending.{pos-send, waits-send, none-waits}
 use Rattle.row.specs.Content.{restOf, begunOf, rests, begunAfter, chunks}
 use Rattle.demand.proofs.Chunks.{rests-add, chunks-add, rests-front, begun-front, chunks-front, rests-lengths}

@@ -10,8 +10,7 @@ use lib.ListN.{length, take, drop, take-append-drop}
 use lib.Seq.{take-all}
 use Rattle.laws.specs.Pick.{pick}
 use Rattle.packet.specs.Packet.{Chunk}
-use Rattle.queue.specs.Queue.{addUp, packets}
-use Rattle.queue.specs.Send.{waits}
+use Rattle.queue.specs.Queue.{addUp, packets, waits}
 use Rattle.row.specs.Content.{chunkOf, restOf, rests, begunAfter, chunks}
 use Rattle.demand.specs.Condition.{piecesOf, joined}
 use Rattle.demand.proofs.Drained.{drained-none}

@@ -8,8 +8,8 @@ use lib.ListN.{length, drop, length-drop, length-map}
 use lib.Seq.{length-take-le}
 use Rattle.laws.specs.Part.{partOf}
 use Rattle.hand.specs.Settings.{at}
-use Rattle.queue.specs.Queue.{addUp, same, units, unsent}
-use Rattle.queue.specs.Send.{waits, got}
+use Rattle.queue.specs.Queue.{addUp, same, units, unsent, waits}
+use Rattle.queue.specs.Send.{got}
 use Rattle.row.specs.Content.{cut, contentOf, begunIn, rests}
 use Rattle.sender.specs.State.{fresh, queueOf, indexOf, waitingOf}
 use Rattle.demand.specs.Bytes.{ofId}

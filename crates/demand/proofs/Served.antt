@@ -7,8 +7,8 @@ use Rattle.hand.specs.Served.{Served}
 use Rattle.hand.specs.declared.Settings.{Settings}
 use Rattle.hand.proofs.Answer.{hand-is}
 use Rattle.hand.proofs.Served.{frame-served}
-use Rattle.queue.specs.Queue.{units, waiting}
-use Rattle.queue.specs.Send.{one, send, waits}
+use Rattle.queue.specs.Queue.{units, waiting, waits}
+use Rattle.queue.specs.Send.{one, send}
 use Rattle.row.specs.Row.{steps, stepped, Whole}
 use Rattle.row.specs.declared.Out.{Out}
 use Rattle.queue.proofs.Taken.{pop-at}

@@ -12,9 +12,9 @@ use lib.Seq.{length-take-le}
 use Rattle.laws.specs.Pick.{pick}
 use Rattle.hand.specs.declared.Settings.{Settings}
 use Rattle.hand.proofs.Allowed.{allowed}
-use Rattle.queue.specs.Queue.{addUp, packets}
+use Rattle.queue.specs.Queue.{addUp, packets, waits}
 use Rattle.queue.proofs.Sums.{addUp-append}
-use Rattle.queue.specs.Send.{waits, AllPos, got, shares}
+use Rattle.queue.specs.Send.{AllPos, got, shares}
 use Rattle.row.specs.Content.{begunIn, rests, begunAfter, chunks}
 use Rattle.sender.specs.State.{queueOf, indexOf}
 use Rattle.sender.specs.Load.{loadNumber, Accepted}

@@ -1,5 +1,5 @@
 -- Condition C (the tender's demand 3), of a run: of its calls and what each answered. Nothing else is looked at. Assumes nothing.
-use Prim.Native.Nat.{ℕ, _+_, _-_, _*_, _/_, _<_, _≤_, min}
+use Prim.Native.Nat.{ℕ, _+_, _*_, _<_, _≤_, min}
 use mathlib.Core.Path.{_≡_}
 use mathlib.Core.List.{List, [], _∷_, _++_, map}
 use mathlib.Core.Bool.{Bool, false, not, _||_}
@@ -11,7 +11,7 @@ use Rattle.laws.specs.Refuse.{test, refusedWith}
 use Rattle.hand.specs.Settings.{at, settingsFor, Allowed}
 use Rattle.hand.specs.declared.Settings.{Settings}
 use Rattle.packet.specs.Packet.{Chunk}
-use Rattle.queue.specs.Queue.{addUp, same, packets}
+use Rattle.queue.specs.Queue.{addUp, same, packets, over}
 use Rattle.row.specs.Content.{chunks}
 use Rattle.demand.specs.Bytes.{split, ofId, saying}
 use Rattle.demand.specs.Run.{Act, load, frame, Answer, settingsOf}
@@ -76,10 +76,6 @@ pub record Ends (p : ℕ) (unit : List ℕ) (k : ℕ) (cs : List Chunk) : Type 0
 -- within the calls next after it, the first k packets of its id end with those of the unit, k having waited
 abbrev pub SentWithin : {es : List Event} → ℕ → Taken es → Type 0
 SentWithin p u = Ends p (u .unit) (waitingWith p u) (saying (ofId p (u .id) (sentOf (u .next))))
-
--- k over s, rounded up
-abbrev pub over : ℕ → ℕ → ℕ
-over k s = (k + (s - 1)) / s
 
 -- ---- refusals
 -- no room for n bytes more in queue id: eight of its units are unfinished, or n plus its bytes not yet sent is over 4,096

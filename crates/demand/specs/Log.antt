@@ -6,7 +6,7 @@ use lib.Dec.{eqb}
 use lib.ListN.{length}
 use Rattle.laws.specs.Pick.{pick}
 use Rattle.hand.specs.Settings.{at}
-use Rattle.queue.specs.Send.{waits}
+use Rattle.queue.specs.Queue.{waits}
 use Rattle.row.specs.Content.{rests}
 use Rattle.demand.specs.Bytes.{split, ofId}
 use Rattle.demand.specs.Run.{Act, load, frame, Desk, settingsOf, Answer, answers}

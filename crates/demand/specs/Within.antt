@@ -7,8 +7,8 @@ use lib.ListN.{length}
 use Rattle.laws.specs.Part.{partOf}
 use Rattle.laws.specs.Pick.{pick}
 use Rattle.hand.specs.Settings.{at}
-use Rattle.queue.specs.Queue.{units}
-use Rattle.queue.specs.Send.{Turn, loaded, framed, waits}
+use Rattle.queue.specs.Queue.{units, waits}
+use Rattle.queue.specs.Send.{Turn, loaded, framed}
 use Rattle.row.specs.Content.{contentOf}
 use Rattle.sender.specs.State.{queueOf}
 use Rattle.sender.specs.Load.{loadNumber}

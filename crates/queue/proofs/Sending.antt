@@ -8,8 +8,8 @@ use native.Mathlib.Nat.{div-eq-of-lt-le, div-eq-sub-div, div-add-mod', mod-lt, a
 use borrow.Author.Tests.{leb-true, leb-false}
 use lib.Dec.{leb}
 use Rattle.laws.specs.Pick.{pick}
-use Rattle.queue.specs.Queue.{addUp, packets}
-use Rattle.queue.specs.Send.{one, send, waits, AllPos, Turn, loaded, framed, after, Lawful, shares, got, later}
+use Rattle.queue.specs.Queue.{addUp, packets, waits, over}
+use Rattle.queue.specs.Send.{one, send, AllPos, Turn, loaded, framed, after, Lawful, shares, got, later}
 
 -- ---- packets
 -- a unit of at most p bytes takes one packet
@@ -135,9 +135,6 @@ module _ (p : ℕ) (hp : 1 ≤ p) where
       after-is h xs a l ∙ send-past (got h) xs (later h) a (omega (arith, bound (waits p xs) h xs a l (omega arith)))
 
 -- ---- rounded up
-abbrev pub ceil : ℕ → ℕ → ℕ
-ceil k s = (k + (s - 1)) / s
-
-pub ceil-le : (k s f : ℕ) → 1 ≤ s → ceil k s ≤ f → k ≤ f * s
-ceil-le k s f h l =
+pub over-le : (k s f : ℕ) → 1 ≤ s → over k s ≤ f → k ≤ f * s
+over-le k s f h l =
     omega (arith, div-add-mod' (k + (s - 1)) s, mod-lt (k + (s - 1)) h, mul-le-mul-right s l)

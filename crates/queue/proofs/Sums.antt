@@ -10,7 +10,7 @@ use borrow.Author.Tests.{eq-eqb, ne-eqb, lt-ltb, le-ltb}
 use lib.Dec.{eqb}
 use lib.ListN.{length, getD, set, take}
 use lib.Seq.{take-suc, take-all}
-use Rattle.queue.specs.Queue.{addUp, same, packets, units, unsent, waiting, anyEmpty, pushed}
+use Rattle.queue.specs.Queue.{addUp, same, packets, units, unsent, waits, waiting, anyEmpty, pushed}
 use Rattle.queue.specs.declared.Queue.{Queue}
 use Rattle.laws.proofs.Flags.{or-true, or-none}
 
@@ -61,7 +61,7 @@ summed-bytes q n i sum b l e h s = s .is ∙ ap (addUp same) (units-are q n i l 
 
 pub summed-packets : (p : ℕ) (q : Queue) (n i sum b : ℕ) → length (q .left) ≡ 8 → n ≡ min (q .count) 8 → n ≤ i → Summed (packets p) (q .left) n b i sum
     → sum ≡ waiting p q
-unfolding waiting
+unfolding waiting waits
 summed-packets p q n i sum b l e h s = s .is ∙ ap (addUp (packets p)) (units-are q n i l e (s .within) h)
 
 -- ---- the packets of a unit

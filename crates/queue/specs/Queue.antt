@@ -15,9 +15,17 @@ addUp f (x ∷ xs) = f x + addUp f xs
 abbrev pub same : ℕ → ℕ
 same x = x
 
--- the packets of p data bytes that x bytes take: x over p, rounded up
+-- k over s, rounded up
+abbrev pub over : ℕ → ℕ → ℕ
+over k s = (k + (s - 1)) / s
+
+-- the packets of p data bytes that x bytes take
 unfoldable pub packets : ℕ → ℕ → ℕ
-packets p x = (x + (p - 1)) / p
+packets p x = over x p
+
+-- and that units take of which these bytes are left
+unfoldable pub waits : ℕ → List ℕ → ℕ
+waits p xs = addUp (packets p) xs
 
 -- the bytes left of each unit, in the order of loading
 abbrev pub units : Queue → List ℕ
@@ -27,7 +35,7 @@ unfoldable pub unsent : Queue → ℕ
 unsent q = addUp same (units q)
 
 unfoldable pub waiting : ℕ → Queue → ℕ
-waiting p q = addUp (packets p) (units q)
+waiting p q = waits p (units q)
 
 -- the lengths of units, of which these bytes are left and so many of the first are sent
 unfoldable pub lengths : ℕ → List ℕ → List ℕ

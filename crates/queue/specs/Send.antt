@@ -1,10 +1,10 @@
--- Sending, one packet at a time. A queue is here the list of the bytes left of each of its units, in the order of loading. Assumes
--- nothing.
+-- Sending, one packet at a time. A queue is here the list of the bytes left of each of its units, in the order of loading. Only proofs
+-- speak of it: no statement that people must believe names anything here. Assumes nothing.
 use Prim.Native.Nat.{ℕ, zero, suc, _+_, _-_, _≤_, min}
 use mathlib.Core.List.{List, [], _∷_, _++_}
 use lib.Dec.{leb}
 use Rattle.laws.specs.Pick.{pick}
-use Rattle.queue.specs.Queue.{addUp, packets}
+use Rattle.queue.specs.Queue.{waits}
 
 -- the queue after one packet of p bytes
 unfoldable pub one : ℕ → List ℕ → List ℕ
@@ -15,10 +15,6 @@ one p (x ∷ xs) = pick (leb x p) xs ((x - p) ∷ xs)
 unfoldable pub send : ℕ → ℕ → List ℕ → List ℕ
 send p zero xs = xs
 send p (suc n) xs = one p (send p n xs)
-
--- the packets that wait
-unfoldable pub waits : ℕ → List ℕ → ℕ
-waits p xs = addUp (packets p) xs
 
 -- no unit is empty
 abbrev pub AllPos : List ℕ → Type 0
