@@ -75,11 +75,11 @@ abbrev left-store : List ℕ
 left-store = frames.storeAfter small (busy .front) store frame
 
 abbrev left-frame : List ℕ
-left-frame = frames.outFor small (busy .front) store frame
+left-frame = frames.frameOut small (busy .front) store frame
 
 two-frames : (frames.frameFor small (busy .front) store frame .number ≡ 0) × (firstId 1 left-frame ≡ 0)
-    × (frames.frameFor small (left .front) left-store left-frame .number ≡ 0) × (firstId 1 (frames.outFor small (left .front) left-store left-frame) ≡ 0)
-unfolding frames.frameFor frames.frameNumber frames.frameTests frames.framed frames.outFor frames.frameBytes frames.framePackets frames.rowAt frames.nulls
+    × (frames.frameFor small (left .front) left-store left-frame .number ≡ 0) × (firstId 1 (frames.frameOut small (left .front) left-store left-frame) ≡ 0)
+unfolding frames.frameFor frames.frameNumber frames.frameTests frames.framed frames.frameOut frames.frameBytes frames.framePackets frames.rowAt frames.nulls
     frames.handOf frames.endsOf frames.nextFrom frames.storeAfter frames.closedAll frames.closed pulled states.fresh
     settingsFor settingsTests unfit brokenState broken anyEmpty anyOver lengths unsent addUp waitingOf waiting waits packets
     give free giveFirst giveOne spread handOut planFor handFor written steps outs stepped packetAt headLen popped dropFirst
@@ -108,7 +108,7 @@ module _ (f : Framer) (meets : Frames f) where
       let n = meets small (f small busy store frame .0 .next) (f small busy store frame .1) (f small busy store frame .2) .0 in
       cc
 
-  next-output : again f small busy store frame .2 ≡ frames.outFor small (left .front) left-store left-frame
+  next-output : again f small busy store frame .2 ≡ frames.frameOut small (left .front) left-store left-frame
   next-output =
       let m = meets small busy store frame in
       let a = state-left in

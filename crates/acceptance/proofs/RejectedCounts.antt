@@ -16,7 +16,7 @@ use Rattle.hand.specs.declared.Settings.{Settings}
 use Rattle.hand.proofs.Allowed.{allowed}
 use Rattle.queue.proofs.Faults.{Sound, sound-of}
 use Rattle.sender.specs.State.{queueOf, indexOf}
-use Rattle.sender.specs.Frame.{handOf, frameNumber, framed, frameFor, frameBytes, outFor}
+use Rattle.sender.specs.Frame.{handOf, frameNumber, framed, frameFor, frameBytes, frameOut}
 use Rattle.sender.specs.Private.{Fit}
 use Rattle.sender.specs.declared.Sender.{Sender}
 use Rattle.sender.specs.declared.Framed.{Framed}
@@ -75,18 +75,18 @@ module _ (g : Settings) (s : Front) (store out : List ℕ) where
     answer-is =
         ap (λ (b : Bool). pick b (framed g s) (record { number = frameNumber g s store out; next = s; packets = noThree; spares = 0; filler = 0 })) (eq-eqb (frameNumber g s store out) 0 e)
 
-    output-is : outFor g s store out ≡ written out 0 (frameBytes g s store)
-    unfolding outFor
+    output-is : frameOut g s store out ≡ written out 0 (frameBytes g s store)
+    unfolding frameOut
     output-is = ap (λ (b : Bool). pick b (written out 0 (frameBytes g s store)) out) (eq-eqb (frameNumber g s store out) 0 e)
 
-    queues-count : (id : ℕ) → id < 3 → at (frameFor g s store out .packets) id ≡ heldBy g id (outFor g s store out)
+    queues-count : (id : ℕ) → id < 3 → at (frameFor g s store out .packets) id ≡ heldBy g id (frameOut g s store out)
     unfolding framed written
     queues-count id h =
         ap (λ (a : answers.Framed). at (a .packets) id) answer-is
         ∙ sym (counted g desk good al (drop (0 + length (frameBytes g s store)) out) id h)
         ∙ ap (heldBy g id) (sym output-is)
 
-    filler-counts : frameFor g s store out .filler ≡ heldBy g 3 (outFor g s store out)
+    filler-counts : frameFor g s store out .filler ≡ heldBy g 3 (frameOut g s store out)
     unfolding framed written
     filler-counts =
         ap (λ (a : answers.Framed). a .filler) answer-is

@@ -87,7 +87,7 @@ Framer = Settings → Sender → List ℕ → List ℕ → Framed × List ℕ ×
 abbrev pub Frames : Framer → Type 0
 Frames f = (g : Settings) (s : Sender) (store out : List ℕ) →
     (f g s store out .0 ≡ outerFramed (frames.frameFor g (s .front) store out)) × (f g s store out .1 ≡ frames.storeAfter g (s .front) store out)
-    × (f g s store out .2 ≡ frames.outFor g (s .front) store out)
+    × (f g s store out .2 ≡ frames.frameOut g (s .front) store out)
 
 -- the id of a frame's first packet: filler comes last, so a frame that begins with id 3 holds nothing else
 abbrev pub firstId : ℕ → List ℕ → ℕ

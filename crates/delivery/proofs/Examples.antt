@@ -17,7 +17,7 @@ use Rattle.row.specs.Content.{restOf, rests}
 use Rattle.row.specs.Row.{headLen, dropFirst, popped, packetAt, stepped, steps, outs}
 use Rattle.sender.specs.State.{fresh, brokenState, putQueue, waitingOf}
 use Rattle.sender.specs.Load.{full, loadTests, loadNumber, loaded, placedIn, loadFor, storeFor}
-use Rattle.sender.specs.Frame.{handOf, rowAt, nulls, framePackets, frameTests, frameNumber, framed, frameFor, frameBytes, outFor}
+use Rattle.sender.specs.Frame.{handOf, rowAt, nulls, framePackets, frameTests, frameNumber, framed, frameFor, frameBytes, frameOut}
 use Rattle.receiver.specs.Link.{kept, nullOf, baseOf, joins, adds, completes, fateOf, linkWith, linkAfter, brokenLink}
 use Rattle.receiver.specs.Receiver as receives
 use Rattle.demand.specs.Bytes.{split, readable, own}
@@ -37,16 +37,16 @@ three =
 
 -- two packets of id 1 and a null packet
 pub packets-sent : sentOf (log acts (freshDesk (replicate 12288 0))) ≡ three
-unfolding written bytesOf shift feed bitsOf bitsOfAll crcOf unfit settingsTests settingsFor give free giveFirst giveOne spread handOut taker takers countOf spareIds planFor handFor headOf dataOf plainOf sealed encode addUp packets unsent waits waiting lengths anyEmpty anyOver broken pushed headLen dropFirst popped packetAt stepped steps outs fresh brokenState putQueue waitingOf full loadTests loadNumber loaded placedIn loadFor storeFor handOf rowAt nulls framePackets frameTests frameNumber frameBytes frameFor framed outFor after split answer answers events gather packetsOf
+unfolding written bytesOf shift feed bitsOf bitsOfAll crcOf unfit settingsTests settingsFor give free giveFirst giveOne spread handOut taker takers countOf spareIds planFor handFor headOf dataOf plainOf sealed encode addUp packets unsent waits waiting lengths anyEmpty anyOver broken pushed headLen dropFirst popped packetAt stepped steps outs fresh brokenState putQueue waitingOf full loadTests loadNumber loaded placedIn loadFor storeFor handOf rowAt nulls framePackets frameTests frameNumber frameBytes frameFor framed frameOut after split answer answers events gather packetsOf
 packets-sent = refl
 
 -- seen from outside: behind the load two packets wait, and behind the frame none
 pub two-wait : waitingAt 4 1 (log (load settings 1 (1 ∷ 2 ∷ 3 ∷ 4 ∷ 5 ∷ 6 ∷ []) ∷ []) (freshDesk (replicate 12288 0))) ≡ 2
-unfolding written bytesOf shift feed bitsOf bitsOfAll crcOf unfit settingsTests settingsFor give free giveFirst giveOne spread handOut taker takers countOf spareIds planFor handFor headOf dataOf plainOf sealed encode addUp packets unsent waiting lengths anyEmpty anyOver broken pushed headLen dropFirst popped packetAt stepped steps outs fresh brokenState putQueue waitingOf full loadTests loadNumber loaded placedIn loadFor storeFor handOf rowAt nulls framePackets frameTests frameNumber frameBytes frameFor framed outFor after split answer answers events gather packetsOf unitFor readable own leftOf rests waits waitingAt
+unfolding written bytesOf shift feed bitsOf bitsOfAll crcOf unfit settingsTests settingsFor give free giveFirst giveOne spread handOut taker takers countOf spareIds planFor handFor headOf dataOf plainOf sealed encode addUp packets unsent waiting lengths anyEmpty anyOver broken pushed headLen dropFirst popped packetAt stepped steps outs fresh brokenState putQueue waitingOf full loadTests loadNumber loaded placedIn loadFor storeFor handOf rowAt nulls framePackets frameTests frameNumber frameBytes frameFor framed frameOut after split answer answers events gather packetsOf unitFor readable own leftOf rests waits waitingAt
 two-wait = refl
 
 pub none-wait : waitingAt 4 1 (log acts (freshDesk (replicate 12288 0))) ≡ 0
-unfolding written bytesOf shift feed bitsOf bitsOfAll crcOf unfit settingsTests settingsFor give free giveFirst giveOne spread handOut taker takers countOf spareIds planFor handFor headOf dataOf plainOf sealed encode addUp packets unsent waiting lengths anyEmpty anyOver broken pushed headLen dropFirst popped packetAt stepped steps outs fresh brokenState putQueue waitingOf full loadTests loadNumber loaded placedIn loadFor storeFor handOf rowAt nulls framePackets frameTests frameNumber frameBytes frameFor framed outFor after split answer answers events gather packetsOf unitFor readable own leftOf restOf rests waits waitingAt bigOf numberAt padded bodyOf decode wrongWord wrongCount testsFor checkFor
+unfolding written bytesOf shift feed bitsOf bitsOfAll crcOf unfit settingsTests settingsFor give free giveFirst giveOne spread handOut taker takers countOf spareIds planFor handFor headOf dataOf plainOf sealed encode addUp packets unsent waiting lengths anyEmpty anyOver broken pushed headLen dropFirst popped packetAt stepped steps outs fresh brokenState putQueue waitingOf full loadTests loadNumber loaded placedIn loadFor storeFor handOf rowAt nulls framePackets frameTests frameNumber frameBytes frameFor framed frameOut after split answer answers events gather packetsOf unitFor readable own leftOf restOf rests waits waitingAt bigOf numberAt padded bodyOf decode wrongWord wrongCount testsFor checkFor
 none-wait = refl
 
 -- and the unit again

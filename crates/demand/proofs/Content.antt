@@ -14,7 +14,8 @@ use Rattle.queue.specs.Queue.{addUp, same, units, unsent, waits}
 use Rattle.queue.specs.Send.{one}
 use Rattle.queue.specs.declared.Queue.{Queue}
 use Rattle.queue.proofs.Sending.{waits-send}
-use Rattle.row.specs.Row.{headLen, popped, dropFirst, stepped, steps, Whole}
+use Rattle.row.specs.Row.{headLen, popped, dropFirst, stepped, steps}
+use Rattle.row.specs.Private.{InRegion}
 use Rattle.row.specs.Content.{cut, contentOf, begunIn, chunkOf, restOf, begunOf, rests, begunAfter, chunks}
 use Rattle.row.specs.declared.Out.{Out}
 use Rattle.queue.proofs.Taken.{pop-at}
@@ -82,7 +83,7 @@ first-of l c x xs e = go l c (ap (λ (k : List ℕ). getD k 0 0) e) (ap length e
     go (y ∷ l) (suc c) f g = f
 
 -- ---- one packet
-module _ (p : ℕ) (hp : 1 ≤ p) (region : List ℕ) (l : length region ≡ 4096) (o : Out) (w : Whole p o 4096) where
+module _ (p : ℕ) (hp : 1 ≤ p) (region : List ℕ) (l : length region ≡ 4096) (o : Out) (w : InRegion p o 4096) where
   room-left : addUp same (units (o .q)) ≤ length (drop (o .at) region)
   unfolding unsent
   room-left = let i = w .inside in omega (arith, length-drop (o .at) region)
@@ -133,7 +134,7 @@ unfolding cut
 none-there y ys [] s f e = let z : 0 ≡ suc (length ys) = ap length f in omega arith
 none-there y ys (x ∷ xs) s f e = let z : suc (length (cut xs (drop x s))) ≡ 0 = ap length e in omega arith
 
-module _ (p : ℕ) (hp : 1 ≤ p) (region : List ℕ) (l : length region ≡ 4096) (o : Out) (w : Whole p o 4096) where
+module _ (p : ℕ) (hp : 1 ≤ p) (region : List ℕ) (l : length region ≡ 4096) (o : Out) (w : InRegion p o 4096) where
   abbrev us : List (List ℕ)
   us = contentOf (o .q) (drop (o .at) region)
 

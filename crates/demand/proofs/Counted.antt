@@ -16,7 +16,7 @@ use Rattle.hand.proofs.Allowed.{allowed, allowed-back}
 use Rattle.hand.proofs.Answer.{hand-total, hand-is}
 use Rattle.hand.proofs.Served.{steps-counted}
 use Rattle.sender.specs.State.{waitingOf}
-use Rattle.sender.specs.Frame.{handOf, frameNumber, frameFor, frameBytes, outFor}
+use Rattle.sender.specs.Frame.{handOf, frameNumber, frameFor, frameBytes, frameOut}
 use Rattle.sender.specs.Frame as sends
 use Rattle.sender.proofs.Framing.{fit-of}
 use Rattle.demand.specs.Bytes.{split, ofId}
@@ -39,7 +39,7 @@ module _ (g : Settings) (out : List ℕ) (y : Desk) (k : Good (g .p) y) (z : num
 
   -- the output
   out-is : out′ ≡ frameBytes g (y .state) (y .store) ++ drop (0 + length (frameBytes g (y .state) (y .store))) out
-  unfolding answer outFor numberOf written
+  unfolding answer frameOut numberOf written
   out-is =
       ap (λ (b : Bool). pick b (written out 0 (frameBytes g (y .state) (y .store))) out) (eq-eqb (frameNumber g (y .state) (y .store) out) 0 z)
 

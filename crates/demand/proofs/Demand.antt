@@ -7,42 +7,42 @@ use mathlib.Core.Bool.{Bool}
 use native.Mathlib.Omega.{arith}
 use Rattle.packet.specs.Packet.{Packet}
 use Rattle.queue.specs.Queue.{units}
-use Rattle.queue.specs.Send.{send, Turn, loaded, framed, after, Lawful, shares, got, later}
+use Rattle.queue.specs.Send.{send, Change, enters, leaves, changed, Lawful, shares, got, later}
 use Rattle.queue.proofs.Sending.{wholly-sent, bound}
 use Rattle.row.specs.Content.{begunIn, rests, begunAfter, chunks}
 use Rattle.sender.specs.State.{queueOf, indexOf}
 use Rattle.demand.specs.Bytes.{readable, own, ofId, indexAfter, numbered}
 use Rattle.demand.specs.Run.{Act, Desk, run, Steady}
 use Rattle.demand.specs.Run as runs
-use Rattle.demand.specs.Within.{turnOf, history, acceptedBy, acceptedIn, sentBy, sentIn, contentIn, waitingIn}
+use Rattle.demand.specs.Within.{changeOf, history, acceptedBy, acceptedIn, sentBy, sentIn, contentIn, waitingIn}
 use Rattle.demand.proofs.Good.{Good, after-good}
 use Rattle.demand.proofs.Packets.{of-append, numbered-append}
 use Rattle.demand.proofs.Chunks.{chunks-length, rests-add, rests-front, chunks-then}
 use Rattle.demand.proofs.Calls.{Did, went}
 
-pub got-append : (h h′ : List Turn) → got (h ++ h′) ≡ got h + got h′
+pub got-append : (h h′ : List Change) → got (h ++ h′) ≡ got h + got h′
 unfolding got
 got-append [] h′ = omega arith
-got-append (loaded x ∷ h) h′ = got-append h h′
-got-append (framed t n ∷ h) h′ = omega (arith, got-append h h′)
+got-append (enters x ∷ h) h′ = got-append h h′
+got-append (leaves t n ∷ h) h′ = omega (arith, got-append h h′)
 
 -- ---- the lengths of its units
-did-then : (p : ℕ) (h h′ : List Turn) (xs ys zs : List ℕ) → Did p h xs ys → Did p h′ ys zs → Did p (h ++ h′) xs zs
-unfolding after Lawful
-did-then p [] h′ xs ys zs a b = record { left = b .left ∙ ap (after p h′) (a .left); lawful = subst (Lawful p h′) (a .left) (b .lawful) }
-did-then p (loaded x ∷ h) h′ xs ys zs a b =
+did-then : (p : ℕ) (h h′ : List Change) (xs ys zs : List ℕ) → Did p h xs ys → Did p h′ ys zs → Did p (h ++ h′) xs zs
+unfolding changed Lawful
+did-then p [] h′ xs ys zs a b = record { left = b .left ∙ ap (changed p h′) (a .left); lawful = subst (Lawful p h′) (a .left) (b .lawful) }
+did-then p (enters x ∷ h) h′ xs ys zs a b =
     let r = did-then p h h′ (xs ++ (x ∷ [])) ys zs (record { left = a .left; lawful = a .lawful .1 }) b in
     record { left = r .left; lawful = (a .lawful .0, r .lawful) }
-did-then p (framed t k ∷ h) h′ xs ys zs a b =
+did-then p (leaves t k ∷ h) h′ xs ys zs a b =
     let r = did-then p h h′ (send p k xs) ys zs (record { left = a .left; lawful = a .lawful .2 }) b in
     record { left = r .left; lawful = (a .lawful .0, a .lawful .1, r .lawful) }
 
 did-run : (p id : ℕ) (acts : List Act) (x : Desk) → id < 3 → Steady p acts → Good p x
     → Did p (history id acts x) (units (queueOf (x .state) id)) (units (queueOf (run acts x .state) id))
-unfolding history run after Lawful
+unfolding history run changed Lawful
 did-run p id [] x h st k = record { left = refl; lawful = tt }
 did-run p id (a ∷ rest) x h st k =
-    did-then p (turnOf id a x) (history id rest (runs.after a x)) _ _ _ (went p id a x h (st .0) k .did)
+    did-then p (changeOf id a x) (history id rest (runs.after a x)) _ _ _ (went p id a x h (st .0) k .did)
     (did-run p id rest (runs.after a x) h (st .1) (after-good p a x (st .0) k))
 
 -- C3, of the state. x is what a call of a run left, a load that was accepted for instance, and k packets of queue id wait. Whatever is called
@@ -76,7 +76,7 @@ pieces p id (a ∷ rest) x h st k =
     let us = contentIn id x in
     let b = begunIn (queueOf (x .state) id) in
     let i = indexOf (x .state) id in
-    let n = got (turnOf id a x) in
+    let n = got (changeOf id a x) in
     let m = got (history id rest z) in
     let acc = acceptedBy id a x in
     let more = acceptedIn id rest z in
@@ -88,7 +88,7 @@ pieces p id (a ∷ rest) x h st k =
     (ap₂ (λ (t : Bool) (l : List (List ℕ)). chunks p m t l) (w .begun) (ap (λ (l : List (List ℕ)). l ++ more) (w .left) ∙ append-assoc (rests p n us) acc more)))
     ∙ sym (numbered-append id i (chunks p n b us) tail)
     ∙ ap (numbered id i)
-    (chunks-then p us (acc ++ more) n m b (w .some) ∙ ap (λ (j : ℕ). chunks p j b (us ++ (acc ++ more))) (sym (got-append (turnOf id a x) (history id rest z))))
+    (chunks-then p us (acc ++ more) n m b (w .some) ∙ ap (λ (j : ℕ). chunks p j b (us ++ (acc ++ more))) (sym (got-append (changeOf id a x) (history id rest z))))
 
 -- what the store has then is what was there and what was accepted, less what the packets have taken
 pub run-content : (p id : ℕ) (acts : List Act) (x : Desk) → id < 3 → Steady p acts → Good p x
@@ -99,11 +99,11 @@ run-content p id (a ∷ acts) x h st k =
     let y = runs.after a x in
     let w = went p id a x h (st .0) k in
     let us = contentIn id x in
-    let n = got (turnOf id a x) in
+    let n = got (changeOf id a x) in
     let m = got (history id acts y) in
     let new = acceptedBy id a x in
     let more = acceptedIn id acts y in
     run-content p id acts y h (st .1) (after-good p a x (st .0) k)
     ∙ ap (rests p m) (ap (λ (l : List (List ℕ)). l ++ more) (w .left) ∙ append-assoc (rests p n us) new more ∙ sym (rests-front p us (new ++ more) n (w .some)))
     ∙ sym (rests-add p n m (us ++ (new ++ more)))
-    ∙ ap (λ (i : ℕ). rests p i (us ++ (new ++ more))) (sym (got-append (turnOf id a x) (history id acts y)))
+    ∙ ap (λ (i : ℕ). rests p i (us ++ (new ++ more))) (sym (got-append (changeOf id a x) (history id acts y)))

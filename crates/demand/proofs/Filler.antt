@@ -19,7 +19,7 @@ use Rattle.row.specs.Row.{headLen, popped, stepped, steps, startOf}
 use Rattle.sender.specs.State.{indexOf, putQueue}
 use Rattle.sender.specs.Load.{loadNumber, loadFor}
 use Rattle.sender.specs.Load as loads
-use Rattle.sender.specs.Frame.{handOf, endsOf, nextFrom, framed, frameBytes, frameNumber, frameFor, outFor}
+use Rattle.sender.specs.Frame.{handOf, endsOf, nextFrom, framed, frameBytes, frameNumber, frameFor, frameOut}
 use Rattle.sender.proofs.Framing.{fit-of}
 use Rattle.demand.specs.Bytes.{readable, own, ofId, indexAfter, numbered}
 use Rattle.demand.specs.Run.{Act, load, frame, Desk, settingsOf, after, Steady}
@@ -78,7 +78,7 @@ load-filled p g j unit x = record { sent = refl; index = go (eqb (loadNumber g (
     go false = refl
 
 frame-filled : (g : Settings) (out : List ℕ) (x : Desk) → Good (g .p) x → Filled (g .p) (number (frame g out) x) (frame g out) x
-unfolding sentBy outFor written frameNumber readable own numbered indexAfter after frameFor framed nextFrom endsOf
+unfolding sentBy frameOut written frameNumber readable own numbered indexAfter after frameFor framed nextFrom endsOf
 frame-filled g out x k = go (eqb (frameNumber g (x .state) (x .store) out) 0) refl
   where
     go : (b : Bool) → eqb (frameNumber g (x .state) (x .store) out) 0 ≡ b → Filled (g .p) (number (frame g out) x) (frame g out) x

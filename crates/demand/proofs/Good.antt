@@ -23,11 +23,12 @@ use Rattle.queue.specs.Queue.{unsent, pushed}
 use Rattle.queue.specs.declared.Queue.{Queue}
 use Rattle.queue.proofs.Faults.{Sound, sound-ok}
 use Rattle.queue.proofs.Keep.{none-sound, sound-push}
-use Rattle.row.specs.Row.{Whole}
+use Rattle.row.specs.Private.{InRegion}
 use Rattle.row.specs.declared.Out.{Out}
 use Rattle.row.proofs.Steps.{whole-of, whole-steps, sound-in}
 use Rattle.sender.specs.State.{noQueue, queueOf, indexOf, outOf, fresh, brokenState, putQueue, waitingOf}
-use Rattle.sender.specs.Load.{full, loadTests, loadNumber, loaded, placedIn, loadFor, storeFor, Accepted}
+use Rattle.sender.specs.Load.{full, loadTests, loadNumber, loaded, placedIn, loadFor, storeFor}
+use Rattle.sender.specs.Private.{Accepted}
 use Rattle.sender.specs.Frame.{handOf, endOf, endsOf, nextFrom, closed, closedAll, frameTests, frameNumber, framed, frameFor, storeAfter}
 use Rattle.sender.specs.declared.Front.{Front}
 use Rattle.sender.proofs.Faults.{fine-back}
@@ -130,13 +131,13 @@ module _ (p : ℕ) (x : Desk) (k : Good p x) where
       go true e = taken-good id unit (passed g (x .state) id (length unit) (length (x .store)) (eqb-true _ _ e) .unit)
 
   -- ---- a frame
-  pub out-whole : (id : ℕ) → id < 3 → Whole p (outOf (x .state) id) 4096
+  pub out-whole : (id : ℕ) → id < 3 → InRegion p (outOf (x .state) id) 4096
   out-whole id h =
       let q = k .queues id h in
       let i = k .indexes id (omega arith) in
       whole-of p 4096 (outOf (x .state) id) q (let b = q .bytes in omega arith) (omega arith)
 
-  pub end-whole : 1 ≤ p → (id n : ℕ) → id < 3 → Whole p (endOf p (x .state) id n) 4096
+  pub end-whole : 1 ≤ p → (id n : ℕ) → id < 3 → InRegion p (endOf p (x .state) id n) 4096
   end-whole hp id n h = whole-steps p 4096 n (outOf (x .state) id) hp (out-whole id h)
 
   closed-length : (store : List ℕ) (id : ℕ) (o : Out) → length (closed store id o) ≡ length store

@@ -21,7 +21,8 @@ use Rattle.queue.proofs.Keep.{pushed-units, pushed-sent}
 use Rattle.row.specs.Content.{cut, contentOf, begunIn, rests, begunAfter, chunks}
 use Rattle.row.specs.declared.Out.{Out}
 use Rattle.sender.specs.State.{queueOf, indexOf, outOf}
-use Rattle.sender.specs.Load.{placedIn, Accepted}
+use Rattle.sender.specs.Load.{placedIn}
+use Rattle.sender.specs.Private.{Accepted}
 use Rattle.sender.specs.Frame.{handOf, endOf, endsOf, nextFrom, closed, closedAll, frameBytes}
 use Rattle.sender.specs.Frame as sends
 use Rattle.sender.specs.Load as loads

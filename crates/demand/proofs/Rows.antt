@@ -19,7 +19,8 @@ use Rattle.packet.specs.Calls.{checkFor}
 use Rattle.packet.proofs.Round.{Says, round}
 use Rattle.queue.specs.Queue.{units, noUnits}
 use Rattle.queue.proofs.Keep.{none-sound}
-use Rattle.row.specs.Row.{headLen, packetAt, stepped, steps, outs, startOf, Whole}
+use Rattle.row.specs.Row.{headLen, packetAt, stepped, steps, outs, startOf}
+use Rattle.row.specs.Private.{InRegion}
 use Rattle.row.specs.declared.Out.{Out}
 use Rattle.row.proofs.Steps.{at-fits, whole-of, whole-steps}
 use Rattle.sender.specs.State.{indexOf, outOf, waitingOf}
@@ -81,7 +82,7 @@ module _ (p id : ℕ) (region : List ℕ) (lo : 1 ≤ p) (hi : p ≤ 255) (hid :
   at-says o h = round p (packetFor p id region o) (at-fits p id o region lo hi hid h)
 
   -- the row in front of others
-  in-row : (n : ℕ) (o : Out) → Whole p o 4096 → (m : ℕ) (rest : List ℕ)
+  in-row : (n : ℕ) (o : Out) → InRegion p o 4096 → (m : ℕ) (rest : List ℕ)
       → packetsIn p (n + m) (outs p id region n o ++ rest) ≡ numbered id (o .index) (rowChunks p region n o) ++ packetsIn p m rest
   unfolding outs rowChunks numbered
   in-row zero o w m rest = let z : 0 + m ≡ m = omega arith in ap (λ (k : ℕ). packetsIn p k rest) z
@@ -130,7 +131,7 @@ module _ (g : Settings) (x : Desk) (k : Good (g .p) x) (al : Allowed g) (rest : 
   unfolding handOf
   sum = omega (arith, hand-total g (waitingOf (g .p) S) (S .turn) al)
 
-  fill-whole : Whole (g .p) (startOf noUnits (indexOf S 3)) 4096
+  fill-whole : InRegion (g .p) (startOf noUnits (indexOf S 3)) 4096
   fill-whole = let i = k .indexes 3 (lit< tt) in whole-of (g .p) 4096 (startOf noUnits (indexOf S 3)) (none-sound (g .p)) (let b = none-sound (g .p) .bytes in omega arith) (omega arith)
 
   bytes-are : frameBytes g S (x .store) ++ rest ≡ bytes 0 (N .a) ++ (bytes 1 (N .b) ++ (bytes 2 (N .c) ++ (nulls ++ rest)))

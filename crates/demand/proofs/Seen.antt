@@ -11,13 +11,13 @@ use Rattle.laws.specs.Pick.{pick}
 use Rattle.hand.specs.Hand.{noThree}
 use Rattle.queue.specs.Queue.{addUp, same}
 use Rattle.queue.proofs.Sums.{addUp-append}
-use Rattle.queue.specs.Send.{Turn, loaded, framed, shares}
+use Rattle.queue.specs.Send.{Change, enters, leaves, shares}
 use Rattle.sender.specs.Load.{loadNumber, loadFor, storeFor}
 use Rattle.sender.specs.Frame.{frameNumber, frameFor, storeAfter}
 use Rattle.sender.specs.Frame as sends
 use Rattle.demand.specs.Run.{Act, load, frame, Desk, numberOf, after, run, Steady, Answer, answer, answers}
 use Rattle.demand.specs.Log.{Event, events, log, Stands, gather, unitFor, acceptedOf, packetsOf, sentOf, shareFor, sharesOf}
-use Rattle.demand.specs.Within.{turnOf, history, acceptedBy, acceptedIn, sentBy, sentIn}
+use Rattle.demand.specs.Within.{changeOf, history, acceptedBy, acceptedIn, sentBy, sentIn}
 
 abbrev pub eventOf : Act → Desk → Event
 eventOf a x = record { act = a; answer = answer a x }
@@ -73,17 +73,17 @@ sent-seen (a ∷ acts) x =
     ap₂ (λ (u v : List (List ℕ)). u ++ v) (ap (λ (n : ℕ). pick (eqb n 0) (packetsOf a (answer a x)) []) (number-is a x) ∙ sent-one a x) (sent-seen acts (after a x))
 
 -- ---- shares
-shares-append : (h h′ : List Turn) → shares (h ++ h′) ≡ shares h + shares h′
+shares-append : (h h′ : List Change) → shares (h ++ h′) ≡ shares h + shares h′
 unfolding shares
 shares-append [] h′ = omega arith
-shares-append (loaded x ∷ h) h′ = shares-append h h′
-shares-append (framed t k ∷ h) h′ = omega (arith, shares-append h h′)
+shares-append (enters x ∷ h) h′ = shares-append h h′
+shares-append (leaves t k ∷ h) h′ = omega (arith, shares-append h h′)
 
-shares-one : (id : ℕ) (a : Act) (x : Desk) (b : Bool) → eqb (numberOf a x) 0 ≡ b → addUp same (pick b (shareFor id a (answer a x)) []) ≡ shares (turnOf id a x)
-unfolding shareFor turnOf numberOf shares addUp
+shares-one : (id : ℕ) (a : Act) (x : Desk) (b : Bool) → eqb (numberOf a x) 0 ≡ b → addUp same (pick b (shareFor id a (answer a x)) []) ≡ shares (changeOf id a x)
+unfolding shareFor changeOf numberOf shares addUp
 shares-one id (load g j unit) x true e = rw e (go (eqb id j))
   where
-    go : (d : Bool) → 0 ≡ shares (pick d (loaded (length unit) ∷ []) [])
+    go : (d : Bool) → 0 ≡ shares (pick d (enters (length unit) ∷ []) [])
     go true = refl
     go false = refl
 shares-one id (load g j unit) x false e = rw e
@@ -96,11 +96,11 @@ shares-seen id [] x = refl
 shares-seen id (a ∷ acts) x =
     let y = after a x in
     let here = pick (eqb (answer a x .number) 0) (shareFor id a (answer a x)) [] in
-    let e : addUp same here ≡ shares (turnOf id a x) =
+    let e : addUp same here ≡ shares (changeOf id a x) =
     ap (λ (n : ℕ). addUp same (pick (eqb n 0) (shareFor id a (answer a x)) [])) (number-is a x) ∙ shares-one id a x (eqb (numberOf a x) 0) refl in
     addUp-append same here (sharesOf id (log acts y))
     ∙ ap₂ (λ (u v : ℕ). u + v) e (shares-seen id acts y)
-    ∙ sym (shares-append (turnOf id a x) (history id acts y))
+    ∙ sym (shares-append (changeOf id a x) (history id acts y))
 
 -- ---- a run, then another
 pub log-append : (acts more : List Act) (x : Desk) → log (acts ++ more) x ≡ log acts x ++ log more (run acts x)

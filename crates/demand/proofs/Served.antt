@@ -9,7 +9,8 @@ use Rattle.hand.proofs.Answer.{hand-is}
 use Rattle.hand.proofs.Served.{frame-served}
 use Rattle.queue.specs.Queue.{units, waiting, waits}
 use Rattle.queue.specs.Send.{one, send}
-use Rattle.row.specs.Row.{steps, stepped, Whole}
+use Rattle.row.specs.Row.{steps, stepped}
+use Rattle.row.specs.Private.{InRegion}
 use Rattle.row.specs.declared.Out.{Out}
 use Rattle.queue.proofs.Taken.{pop-at}
 use Rattle.row.proofs.Steps.{whole-steps, sound-in}
@@ -21,7 +22,7 @@ use Rattle.demand.specs.Run.{Desk}
 use Rattle.demand.proofs.Good.{Good, out-whole}
 
 -- ---- what n packets leave
-pub steps-units : (p n : ℕ) (o : Out) → 1 ≤ p → Whole p o 4096 → units (steps p n o .q) ≡ send p n (units (o .q))
+pub steps-units : (p n : ℕ) (o : Out) → 1 ≤ p → InRegion p o 4096 → units (steps p n o .q) ≡ send p n (units (o .q))
 unfolding steps stepped send
 steps-units p zero o hp w = refl
 steps-units p (suc n) o hp w =

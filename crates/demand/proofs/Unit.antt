@@ -17,7 +17,8 @@ use Rattle.queue.proofs.Sums.{addUp-append}
 use Rattle.queue.specs.Send.{AllPos, got, shares}
 use Rattle.row.specs.Content.{begunIn, rests, begunAfter, chunks}
 use Rattle.sender.specs.State.{queueOf, indexOf}
-use Rattle.sender.specs.Load.{loadNumber, Accepted}
+use Rattle.sender.specs.Load.{loadNumber}
+use Rattle.sender.specs.Private.{Accepted}
 use Rattle.sender.proofs.Loading.{passed}
 use Rattle.demand.specs.Bytes.{ofId, saying}
 use Rattle.demand.specs.Run.{Act, load, Desk, numberOf, after, Steady}

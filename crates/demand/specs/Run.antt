@@ -8,7 +8,7 @@ use Rattle.hand.specs.declared.Three.{Three}
 use Rattle.hand.specs.declared.Settings.{Settings}
 use Rattle.sender.specs.State.{fresh}
 use Rattle.sender.specs.Load.{loadNumber, loadFor, storeFor}
-use Rattle.sender.specs.Frame.{frameNumber, frameFor, storeAfter, outFor}
+use Rattle.sender.specs.Frame.{frameNumber, frameFor, storeAfter, frameOut}
 use Rattle.sender.specs.declared.Front.{Front}
 
 -- a call, with what is newly handed in: its settings, and a unit for queue id or an output
@@ -62,7 +62,7 @@ answer (load g id unit) x =
     record { number = loadFor g (x .state) id unit (x .store) .number; packets = noThree; spares = 0; filler = 0; out = [] }
 answer (frame g out) x =
     let f = frameFor g (x .state) (x .store) out in
-    record { number = f .number; packets = f .packets; spares = f .spares; filler = f .filler; out = outFor g (x .state) (x .store) out }
+    record { number = f .number; packets = f .packets; spares = f .spares; filler = f .filler; out = frameOut g (x .state) (x .store) out }
 
 -- of a run
 unfoldable pub answers : List Act → Desk → List Answer

@@ -8,23 +8,23 @@ use Rattle.laws.specs.Part.{partOf}
 use Rattle.laws.specs.Pick.{pick}
 use Rattle.hand.specs.Settings.{at}
 use Rattle.queue.specs.Queue.{units, waits}
-use Rattle.queue.specs.Send.{Turn, loaded, framed}
+use Rattle.queue.specs.Send.{Change, enters, leaves}
 use Rattle.row.specs.Content.{contentOf}
 use Rattle.sender.specs.State.{queueOf}
 use Rattle.sender.specs.Load.{loadNumber}
-use Rattle.sender.specs.Frame.{handOf, frameNumber, outFor}
+use Rattle.sender.specs.Frame.{handOf, frameNumber, frameOut}
 use Rattle.demand.specs.Bytes.{split}
 use Rattle.demand.specs.Run.{Act, load, frame, Desk, after}
 
 -- what a call is for queue id: a unit that was accepted; a frame, with its share and what it took; or nothing
-unfoldable pub turnOf : ℕ → Act → Desk → List Turn
-turnOf id (load g j unit) x = pick (eqb (loadNumber g (x .state) j unit (x .store)) 0 && eqb id j) (loaded (length unit) ∷ []) []
-turnOf id (frame g out) x =
-    pick (eqb (frameNumber g (x .state) (x .store) out) 0) (framed (at (g .share) id) (at (handOf g (x .state) .packets) id) ∷ []) []
+unfoldable pub changeOf : ℕ → Act → Desk → List Change
+changeOf id (load g j unit) x = pick (eqb (loadNumber g (x .state) j unit (x .store)) 0 && eqb id j) (enters (length unit) ∷ []) []
+changeOf id (frame g out) x =
+    pick (eqb (frameNumber g (x .state) (x .store) out) 0) (leaves (at (g .share) id) (at (handOf g (x .state) .packets) id) ∷ []) []
 
-unfoldable pub history : ℕ → List Act → Desk → List Turn
+unfoldable pub history : ℕ → List Act → Desk → List Change
 history id [] x = []
-history id (a ∷ rest) x = turnOf id a x ++ history id rest (after a x)
+history id (a ∷ rest) x = changeOf id a x ++ history id rest (after a x)
 
 -- the units that it accepted, in order
 unfoldable pub acceptedBy : ℕ → Act → Desk → List (List ℕ)
@@ -39,7 +39,7 @@ acceptedIn id (a ∷ rest) x = acceptedBy id a x ++ acceptedIn id rest (after a 
 unfoldable pub sentBy : Act → Desk → List (List ℕ)
 sentBy (load g id unit) x = []
 sentBy (frame g out) x =
-    pick (eqb (frameNumber g (x .state) (x .store) out) 0) (split (g .p + 3) (g .n) (outFor g (x .state) (x .store) out)) []
+    pick (eqb (frameNumber g (x .state) (x .store) out) 0) (split (g .p + 3) (g .n) (frameOut g (x .state) (x .store) out)) []
 
 -- all packets of a run, in order
 unfoldable pub sentIn : List Act → Desk → List (List ℕ)

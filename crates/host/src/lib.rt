@@ -9,7 +9,7 @@ ghost use Rattle.hand.specs.Settings.{settingsFor};
 ghost use Rattle.receiver.specs.Receiver.{saidFor, bufferFor};
 ghost use Rattle.sender.specs.State.{fresh};
 ghost use Rattle.sender.specs.Load.{loadFor, storeFor};
-ghost use Rattle.sender.specs.Frame.{frameFor, storeAfter, outFor};
+ghost use Rattle.sender.specs.Frame.{frameFor, storeAfter, frameOut};
 ghost use Rattle.sender.specs.Outer.{outer, outerLoaded, outerFramed};
 ghost use Rattle.host.specs.Received.{unheard, receivedBy, receivedFor, said};
 use hand::Settings;
@@ -81,7 +81,7 @@ pub extern "C" fn keshgurvat_frame(
 ) -> Framed
     ensures answer { λ r. ⌜ r ≡ outerFramed (frameFor settings (state .front) (now (store .entry)) (now (out .entry))) ⌝ }
     ensures kept { λ _. ⌜ now (store .exit) ≡ storeAfter settings (state .front) (now (store .entry)) (now (out .entry)) ⌝ }
-    ensures written { λ _. ⌜ now (out .exit) ≡ outFor settings (state .front) (now (store .entry)) (now (out .entry)) ⌝ }
+    ensures written { λ _. ⌜ now (out .exit) ≡ frameOut settings (state .front) (now (store .entry)) (now (out .entry)) ⌝ }
 {
     state.frame(settings, store, out)
 }

@@ -9,7 +9,7 @@ use borrow.Author.Tests.{leb-true, leb-false}
 use lib.Dec.{leb}
 use Rattle.laws.specs.Pick.{pick}
 use Rattle.queue.specs.Queue.{addUp, packets, waits, over}
-use Rattle.queue.specs.Send.{one, send, AllPos, Turn, loaded, framed, after, Lawful, shares, got, later}
+use Rattle.queue.specs.Send.{one, send, AllPos, Change, enters, leaves, changed, Lawful, shares, got, later}
 
 -- ---- packets
 -- a unit of at most p bytes takes one packet
@@ -110,29 +110,29 @@ module _ (p : ℕ) (hp : 1 ≤ p) where
   pos-append (x ∷ xs) vs a b = (a .0, pos-append xs vs (a .1) b)
 
   -- of k packets that wait, as many are sent as the shares add up to
-  pub bound : (k : ℕ) (h : List Turn) (xs : List ℕ) → AllPos xs → Lawful p h xs → k ≤ waits p xs → min k (shares h) ≤ got h
+  pub bound : (k : ℕ) (h : List Change) (xs : List ℕ) → AllPos xs → Lawful p h xs → k ≤ waits p xs → min k (shares h) ≤ got h
   unfolding Lawful shares got
   bound k [] xs a l h = omega arith
-  bound k (loaded x ∷ t) xs a l h =
+  bound k (enters x ∷ t) xs a l h =
       bound k t (xs ++ (x ∷ [])) (pos-append xs (x ∷ []) a (l .0, tt)) (l .1) (omega (arith, waits-append xs (x ∷ [])))
-  bound k (framed s g ∷ t) xs a l h =
+  bound k (leaves s g ∷ t) xs a l h =
       frame-step k (waits p xs) s g (shares t) (got t) h (l .0)
       (bound (k - g) t (send p g xs) (pos-send g xs a) (l .2) (omega (arith, waits-send g xs a)))
 
   -- the queue after a history: what was there and what came, less what was sent
-  pub after-is : (h : List Turn) (xs : List ℕ) → AllPos xs → Lawful p h xs → after p h xs ≡ send p (got h) (xs ++ later h)
-  unfolding after Lawful got later send
-  after-is [] xs a l = sym (append-nil xs)
-  after-is (loaded x ∷ t) xs a l = after-is t (xs ++ (x ∷ [])) (pos-append xs (x ∷ []) a (l .0, tt)) (l .1) ∙ ap (send p (got t)) (append-assoc xs (x ∷ []) (later t))
-  after-is (framed s g ∷ t) xs a l =
-      after-is t (send p g xs) (pos-send g xs a) (l .2) ∙ ap (send p (got t)) (sym (send-append g xs (later t) a (l .1)))
+  pub changed-is : (h : List Change) (xs : List ℕ) → AllPos xs → Lawful p h xs → changed p h xs ≡ send p (got h) (xs ++ later h)
+  unfolding changed Lawful got later send
+  changed-is [] xs a l = sym (append-nil xs)
+  changed-is (enters x ∷ t) xs a l = changed-is t (xs ++ (x ∷ [])) (pos-append xs (x ∷ []) a (l .0, tt)) (l .1) ∙ ap (send p (got t)) (append-assoc xs (x ∷ []) (later t))
+  changed-is (leaves s g ∷ t) xs a l =
+      changed-is t (send p g xs) (pos-send g xs a) (l .2) ∙ ap (send p (got t)) (sym (send-append g xs (later t) a (l .1)))
       ∙ sym (send-add (got t) g (xs ++ later t)) ∙ ap (λ (n : ℕ). send p n (xs ++ later t)) (add-comm (got t) g)
 
   -- CONDITION C: once the shares of the frames since acceptance add up to what waited then, nothing of it is left
-  pub wholly-sent : (h : List Turn) (xs : List ℕ) → AllPos xs → Lawful p h xs → waits p xs ≤ shares h
-      → after p h xs ≡ send p (got h - waits p xs) (later h)
+  pub wholly-sent : (h : List Change) (xs : List ℕ) → AllPos xs → Lawful p h xs → waits p xs ≤ shares h
+      → changed p h xs ≡ send p (got h - waits p xs) (later h)
   wholly-sent h xs a l e =
-      after-is h xs a l ∙ send-past (got h) xs (later h) a (omega (arith, bound (waits p xs) h xs a l (omega arith)))
+      changed-is h xs a l ∙ send-past (got h) xs (later h) a (omega (arith, bound (waits p xs) h xs a l (omega arith)))
 
 -- ---- rounded up
 pub over-le : (k s f : ℕ) → 1 ≤ s → over k s ≤ f → k ≤ f * s

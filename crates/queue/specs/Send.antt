@@ -22,34 +22,34 @@ AllPos [] = Unit {0}
 AllPos (x ∷ xs) = (1 ≤ x) × AllPos xs
 
 -- what happened to one queue: a unit of so many bytes was accepted, or a frame with this share took so many packets
-pub data Turn : Type 0 where
-  loaded : (bytes : ℕ) → Turn
-  framed : (share got : ℕ) → Turn
+pub data Change : Type 0 where
+  enters : (bytes : ℕ) → Change
+  leaves : (share got : ℕ) → Change
 
 -- the queue after these, in their order
-unfoldable pub after : ℕ → List Turn → List ℕ → List ℕ
-after p [] xs = xs
-after p (loaded x ∷ h) xs = after p h (xs ++ (x ∷ []))
-after p (framed s g ∷ h) xs = after p h (send p g xs)
+unfoldable pub changed : ℕ → List Change → List ℕ → List ℕ
+changed p [] xs = xs
+changed p (enters x ∷ h) xs = changed p h (xs ++ (x ∷ []))
+changed p (leaves s g ∷ h) xs = changed p h (send p g xs)
 
 -- each unit has a byte; each frame took at least the smaller of share and what waited, and no more than waited
-unfoldable pub Lawful : ℕ → List Turn → List ℕ → Type 0
+unfoldable pub Lawful : ℕ → List Change → List ℕ → Type 0
 Lawful p [] xs = Unit {0}
-Lawful p (loaded x ∷ h) xs = (1 ≤ x) × Lawful p h (xs ++ (x ∷ []))
-Lawful p (framed s g ∷ h) xs = (min s (waits p xs) ≤ g) × (g ≤ waits p xs) × Lawful p h (send p g xs)
+Lawful p (enters x ∷ h) xs = (1 ≤ x) × Lawful p h (xs ++ (x ∷ []))
+Lawful p (leaves s g ∷ h) xs = (min s (waits p xs) ≤ g) × (g ≤ waits p xs) × Lawful p h (send p g xs)
 
-unfoldable pub shares : List Turn → ℕ
+unfoldable pub shares : List Change → ℕ
 shares [] = 0
-shares (loaded x ∷ h) = shares h
-shares (framed s g ∷ h) = s + shares h
+shares (enters x ∷ h) = shares h
+shares (leaves s g ∷ h) = s + shares h
 
-unfoldable pub got : List Turn → ℕ
+unfoldable pub got : List Change → ℕ
 got [] = 0
-got (loaded x ∷ h) = got h
-got (framed s g ∷ h) = g + got h
+got (enters x ∷ h) = got h
+got (leaves s g ∷ h) = g + got h
 
 -- the units that were accepted meanwhile
-unfoldable pub later : List Turn → List ℕ
+unfoldable pub later : List Change → List ℕ
 later [] = []
-later (loaded x ∷ h) = x ∷ later h
-later (framed s g ∷ h) = later h
+later (enters x ∷ h) = x ∷ later h
+later (leaves s g ∷ h) = later h

@@ -8,7 +8,7 @@ use lib.Dec.{leb, eqb}
 use Rattle.laws.specs.Pick.{pick}
 use Rattle.receiver.specs.declared.Link.{Link}
 use Rattle.receiver.specs.Link.{kept, nullOf, baseOf, joins, adds, completes, Fate, delivered, added, dropped, skipped, fateOf, linkWith, linkAfter}
-use Rattle.receiver.specs.Bytes.{openOf, deliveredBy, droppedBy, skippedBy, goneOf, deliveredOf, droppedOf, skippedOf}
+use Rattle.receiver.specs.Bytes.{openOf, deliveredBy, droppedBy, skippedBy, goneOf, deliveredBytes, droppedBytes, skippedBytes}
 
 -- the fate, with j: the packet belongs to a unit; v: the unit does not pass 4,096 bytes; t: the last flag
 abbrev fate : Bool → Bool → Bool → Fate
@@ -79,8 +79,8 @@ null-none false t n e = absurd (true≢false (sym e))
 
 -- one packet of n useful bytes: with the bytes of the open unit before it they are what it delivers, drops and leaves open, and what is skipped
 pub balance : (l : Link) (i : ℕ) (f t : Bool) (n : ℕ)
-    → n + openOf l ≡ deliveredOf l i f t n + droppedOf l i f t n + openOf (linkAfter l i f t n) + skippedOf l i f t n
-unfolding deliveredOf droppedOf skippedOf fateOf completes adds joins baseOf goneOf kept linkAfter openOf linkWith
+    → n + openOf l ≡ deliveredBytes l i f t n + droppedBytes l i f t n + openOf (linkAfter l i f t n) + skippedBytes l i f t n
+unfolding deliveredBytes droppedBytes skippedBytes fateOf completes adds joins baseOf goneOf kept linkAfter openOf linkWith
 balance l i f t n =
     let z = nullOf f t n in
     let s = pick (l .heard) (eqb i (l .index)) true in

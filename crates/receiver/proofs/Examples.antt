@@ -13,7 +13,7 @@ use Rattle.receiver.specs.declared.Told.{Told}
 use Rattle.receiver.specs.declared.Answer.the-variants.{Nothing, Delivered, Refused}
 use Rattle.receiver.specs.Link.{kept, nullOf, baseOf, joins, adds, completes, delivered, added, dropped, skipped, fateOf, linkWith, linkAfter, brokenLink, noLink}
 use Rattle.receiver.specs.Receiver.{fresh, broken, answerBy, answerIn, takenIn, stepTests, stepNumber, stepFor}
-use Rattle.receiver.specs.Bytes.{openOf, deliveredBy, droppedBy, skippedBy, goneOf, deliveredOf, droppedOf, skippedOf}
+use Rattle.receiver.specs.Bytes.{openOf, deliveredBy, droppedBy, skippedBy, goneOf, deliveredBytes, droppedBytes, skippedBytes}
 
 -- id 0 with its next index, and an open unit of so many bytes or none
 abbrev pub open-with : ℕ → ℕ → Receiver
@@ -57,6 +57,6 @@ long = record { heard = true; index = 1; begun = true; len = 4090 }
 
 pub limit :
     (fateOf long 1 false false 6 ≡ added) × (fateOf long 1 false true 6 ≡ delivered) × (fateOf long 1 false true 7 ≡ dropped) × (fateOf long 2 false true 6 ≡ skipped)
-    × (droppedOf long 1 false true 7 ≡ 4097) × (droppedOf long 1 false true 6 ≡ 0) × (droppedOf long 2 true true 6 ≡ 4090) × (skippedOf long 2 false true 6 ≡ 6)
-unfolding kept nullOf baseOf joins adds completes fateOf openOf goneOf deliveredBy droppedBy skippedBy droppedOf skippedOf
+    × (droppedBytes long 1 false true 7 ≡ 4097) × (droppedBytes long 1 false true 6 ≡ 0) × (droppedBytes long 2 true true 6 ≡ 4090) × (skippedBytes long 2 false true 6 ≡ 6)
+unfolding kept nullOf baseOf joins adds completes fateOf openOf goneOf deliveredBy droppedBy skippedBy droppedBytes skippedBytes
 limit = (refl, refl, refl, refl, refl, refl, refl, refl)

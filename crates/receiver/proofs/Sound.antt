@@ -18,7 +18,7 @@ use Rattle.receiver.specs.declared.Told.{Told}
 use Rattle.receiver.specs.declared.Answer.the-variants.{Refused}
 use Rattle.receiver.specs.Link.{kept, nullOf, baseOf, adds, linkWith, linkAfter, brokenLink, noLink}
 use Rattle.receiver.specs.Receiver.{linkOf, linkIn, fresh, broken, takenIn, stepTests, stepNumber, stepFor}
-use Rattle.receiver.specs.Run.{Given, afterAll}
+use Rattle.receiver.specs.Run.{Input, afterAll}
 use Rattle.receiver.proofs.Links.{adds-fit}
 
 -- ---- one id
@@ -92,7 +92,7 @@ step-fine p r s room o = go (eqb (stepNumber p r s room) 0)
     go true = taken-fine r (decode p s) (id-in p s) o
     go false = o
 
-pub all-fine : (gs : List Given) (r : Receiver) → Fine r → Fine (afterAll gs r)
+pub all-fine : (gs : List Input) (r : Receiver) → Fine r → Fine (afterAll gs r)
 unfolding afterAll
 all-fine [] r o = o
 all-fine (g ∷ gs) r o = all-fine gs (stepFor (g .p) r (g .packet) (g .room) .next) (step-fine (g .p) r (g .packet) (g .room) o)
@@ -114,5 +114,5 @@ not-17 p r s room h e =
     (sym (ap (λ (b : Bool). pick (eqb p 0) 13 (pick (ltb 255 p) 13 (pick b 17 (pick (not (eqb room 16384)) 1 (pick (not (eqb (length s) (p + 3))) 1 (pick (wrongWord p s) 16 (pick (wrongCount p s) 16 0))))))) h) ∙ e)
 
 -- from a fresh record, after any steps: the next is not refused with 17
-pub never-17 : (gs : List Given) (p : ℕ) (s : List ℕ) (room : ℕ) → stepNumber p (afterAll gs fresh) s room ≡ 17 → ⊥
+pub never-17 : (gs : List Input) (p : ℕ) (s : List ℕ) (room : ℕ) → stepNumber p (afterAll gs fresh) s room ≡ 17 → ⊥
 never-17 gs p s room = not-17 p (afterAll gs fresh) s room (fine-broken (afterAll gs fresh) (all-fine gs fresh fresh-fine))

@@ -23,7 +23,8 @@ use Rattle.receiver.specs.declared.Told.{Told}
 use Rattle.receiver.specs.declared.Answer.{Answer}
 use Rattle.receiver.specs.declared.Answer.the-variants.{Nothing, Delivered, Refused}
 use Rattle.receiver.specs.Link.{baseOf, joins, adds, completes, Fate, delivered, added, dropped, skipped, fateOf, linkAfter, brokenLink}
-use Rattle.receiver.specs.Receiver.{linkOf, broken, numberWith, saysWith, Ready, fateIn, baseIn, answerBy, answerIn, takenIn, bufferIn, stepTests, stepNumber, stepFor, bufferFor, told, valuesBy, saidFor}
+use Rattle.receiver.specs.Receiver.{linkOf, broken, fateIn, baseIn, answerBy, answerIn, takenIn, bufferIn, stepTests, stepNumber, stepFor, bufferFor, told, valuesBy, saidFor}
+use Rattle.receiver.specs.Private.{numberWith, saysWith, Checked}
 use Rattle.receiver.proofs.Links.{adds-fit}
 
 -- ---- the number
@@ -143,7 +144,7 @@ put-by : (ad : Bool) (buffer body : List ℕ) (at : ℕ) → (ad ≡ true → at
 put-by true buffer body at h = placed-is buffer at body (h refl)
 put-by false buffer body at h = refl
 
-module _ (r : Receiver) (h : Head) (body buffer : List ℕ) (base : ℕ) (ad : Bool) (ok : Ready h (length body) (length buffer))
+module _ (r : Receiver) (h : Head) (body buffer : List ℕ) (base : ℕ) (ad : Bool) (ok : Checked h (length body) (length buffer))
     (eb : base ≡ baseOf (linkOf r (h .id)) (h .first)) (ea : ad ≡ adds (linkOf r (h .id)) (h .index) (h .first) (h .last) (length body)) where
   put-in : ad ≡ true → h .id * 4096 + base + length body ≤ length buffer
   put-in t =
@@ -228,7 +229,7 @@ module _ (p : ℕ) (r : Receiver) (s buffer : List ℕ) (h : Head) (eh : h ≡ r
       body-is : take (from + h .length - from) (drop from s) ≡ bodyOf p s
       body-is = let q : from + h .length - from ≡ length (bodyOf p s) = omega (arith, length-is) in rw q (part .body)
 
-      pub step-ready : Ready h (length (take (from + h .length - from) (drop from s))) (length buffer)
+      pub step-ready : Checked h (length (take (from + h .length - from) (drop from s))) (length buffer)
       unfolding headFor decode
       step-ready = rw body-is (record { id-in = id-low; index-in = index-low; most = part .most; whole = accepted .whole })
         where

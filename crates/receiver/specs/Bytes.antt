@@ -34,11 +34,11 @@ unfoldable pub goneOf : Link → ℕ → Bool → Bool → ℕ → ℕ
 goneOf l i f t n = pick (kept l i && pick (nullOf f t n) true (not f)) 0 (openOf l)
 
 -- the bytes that a packet delivers, drops (its own too, where the unit passes 4,096 bytes) and that are skipped
-unfoldable pub deliveredOf : Link → ℕ → Bool → Bool → ℕ → ℕ
-deliveredOf l i f t n = deliveredBy (fateOf l i f t n) (baseOf l f + n)
+unfoldable pub deliveredBytes : Link → ℕ → Bool → Bool → ℕ → ℕ
+deliveredBytes l i f t n = deliveredBy (fateOf l i f t n) (baseOf l f + n)
 
-unfoldable pub droppedOf : Link → ℕ → Bool → Bool → ℕ → ℕ
-droppedOf l i f t n = goneOf l i f t n + droppedBy (fateOf l i f t n) (baseOf l f + n)
+unfoldable pub droppedBytes : Link → ℕ → Bool → Bool → ℕ → ℕ
+droppedBytes l i f t n = goneOf l i f t n + droppedBy (fateOf l i f t n) (baseOf l f + n)
 
-unfoldable pub skippedOf : Link → ℕ → Bool → Bool → ℕ → ℕ
-skippedOf l i f t n = skippedBy (fateOf l i f t n) n
+unfoldable pub skippedBytes : Link → ℕ → Bool → Bool → ℕ → ℕ
+skippedBytes l i f t n = skippedBy (fateOf l i f t n) n

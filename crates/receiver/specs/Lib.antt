@@ -4,3 +4,4 @@ pub mod Line
 pub mod Bytes
 pub mod Run
 pub mod Rules
+pub mod Private

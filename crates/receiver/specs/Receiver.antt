@@ -1,7 +1,6 @@
 -- The receiver's step (01, "Packets, queues and receiver" and "Numbers given back"): one packet, four ids, a buffer with 4,096 bytes for each.
 -- Assumes nothing.
-use Prim.Native.Nat.{ℕ, _+_, _*_, _≤_, _<_}
-use mathlib.Core.Path.{_≡_}
+use Prim.Native.Nat.{ℕ, _+_, _*_}
 use mathlib.Core.List.{List, [], _∷_}
 use mathlib.Core.Bool.{Bool, not, _||_}
 use lib.Dec.{ltb, eqb}
@@ -10,9 +9,8 @@ use Rattle.laws.specs.Pick.{pick}
 use Rattle.laws.specs.Refuse.{Test, test, refusedWith}
 use Rattle.laws.specs.Said.{Said}
 use Rattle.laws.specs.Written.{written}
-use Rattle.packet.specs.Packet.{Packet, packetOf, decode}
+use Rattle.packet.specs.Packet.{Packet, decode}
 use Rattle.packet.specs.Calls.{wrongWord, wrongCount}
-use Rattle.packet.specs.declared.Head.{Head}
 use Rattle.receiver.specs.declared.Link.{Link}
 use Rattle.receiver.specs.declared.Receiver.{Receiver}
 use Rattle.receiver.specs.declared.Told.{Told}
@@ -81,22 +79,6 @@ stepFor p r s room =
 -- the buffer after the call
 unfoldable pub bufferFor : ℕ → Receiver → List ℕ → List ℕ → List ℕ
 bufferFor p r s buffer = pick (eqb (stepNumber p r s (length buffer)) 0) (bufferIn r (decode p s) buffer) buffer
-
--- ---- within the call
--- the number, where the packet's own check says this
-unfoldable pub numberWith : ℕ → Receiver → ℕ → ℕ → ℕ
-numberWith p r room checked = pick (eqb p 0 || ltb 255 p) 13 (pick (broken r) 17 (pick (not (eqb room 16384)) 1 checked))
-
--- the packet with this header and these useful bytes
-abbrev pub saysWith : Head → List ℕ → Packet
-saysWith h body = packetOf (h .first) (h .last) (h .id) (h .index) body
-
--- what the checks establish: n useful bytes, a buffer of room bytes
-pub record Ready (h : Head) (n room : ℕ) : Type 0 where
-  pub id-in : h .id < 4
-  pub index-in : h .index < 8
-  pub most : n ≤ 255
-  pub whole : room ≡ 16384
 
 -- ---- 01's number and place for each case, and the values: of a unit its id and length
 unfoldable pub told : Answer → Said

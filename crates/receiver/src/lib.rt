@@ -8,7 +8,8 @@ ghost use Rattle.laws.specs.Pick.{pick};
 ghost use Rattle.moves.specs.Moves.{placed};
 ghost use Rattle.receiver.specs.declared.Answer.the-variants.{Nothing, Delivered};
 ghost use Rattle.receiver.specs.Link.{kept, nullOf, baseOf, joins, adds, linkWith, linkAfter, brokenLink};
-ghost use Rattle.receiver.specs.Receiver.{fresh, broken, numberWith, saysWith, Ready, takenIn, bufferIn, stepFor, told, saidFor, bufferFor};
+ghost use Rattle.receiver.specs.Receiver.{fresh, broken, takenIn, bufferIn, stepFor, told, saidFor, bufferFor};
+ghost use Rattle.receiver.specs.Private.{numberWith, saysWith, Checked};
 
 // What is known of one id: whether a packet of it has come, the next index, whether a unit is open, and its bytes so far.
 #[repr(C)]
@@ -188,7 +189,7 @@ impl Receiver {
 
     // A packet that is not refused: what its header says, and its useful bytes.
     fn take(self, head: Head, useful: &[u8], buffer: &mut [u8]) -> Told
-        requires { ⌜ Ready head (length (now useful)) (length (now buffer)) ⌝ }
+        requires { ⌜ Checked head (length (now useful)) (length (now buffer)) ⌝ }
         ensures { λ r. ⌜ r ≡ takenIn self (saysWith head (now (useful .entry))) ⌝ }
         ensures { λ _. ⌜ now (buffer .exit) ≡ bufferIn self (saysWith head (now (useful .entry))) (now (buffer .entry)) ⌝ }
     {

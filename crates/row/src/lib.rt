@@ -7,7 +7,8 @@ ghost use Rattle.laws.specs.Written.{written};
 ghost use Rattle.packet.specs.Calls.{outFor};
 ghost use Rattle.packet.specs.Packet.{packetOf};
 ghost use Rattle.queue.specs.Queue.{units};
-ghost use Rattle.row.specs.Row.{Whole, stepped, packetAt, steps, outs, fits, rowFor, rowOut};
+ghost use Rattle.row.specs.Row.{stepped, packetAt, steps, outs, fits, rowFor, rowOut};
+ghost use Rattle.row.specs.Private.{InRegion};
 
 // Where the writing of a queue's packets stands: what is left, the place in the region from which it is read, and the next index.
 pub struct Out {
@@ -52,7 +53,7 @@ fn first_left(q: Queue) -> u16
 
 // The next packet, read from the region.
 fn step_out(o: Out, p: u16, id: u8, region: &[u8], dst: &mut [u8]) -> Out
-    requires { ⌜ Whole p o (length (now region)) × (id < 4) × (1 ≤ p) × (p ≤ 255) × (length (now dst) ≡ p + 3) ⌝ }
+    requires { ⌜ InRegion p o (length (now region)) × (id < 4) × (1 ≤ p) × (p ≤ 255) × (length (now dst) ≡ p + 3) ⌝ }
     ensures { λ r. ⌜ r ≡ stepped p o ⌝ }
     ensures { λ _. ⌜ now (dst .exit) ≡ packetAt p id (now (region .entry)) o ⌝ }
 {
@@ -98,7 +99,7 @@ fn is_fit(q: Queue, index: u8, p: u8, id: u8, n: usize, room: usize, at: usize, 
 
 // The next n packets of a queue, to the front of dst.
 fn write_row(o: Out, p: u16, id: u8, n: usize, region: &[u8], dst: &mut [u8]) -> Out
-    requires { ⌜ Whole p o (length (now region)) × (id < 4) × (1 ≤ p) × (p ≤ 255) × (n * (p + 3) ≤ length (now dst)) ⌝ }
+    requires { ⌜ InRegion p o (length (now region)) × (id < 4) × (1 ≤ p) × (p ≤ 255) × (n * (p + 3) ≤ length (now dst)) ⌝ }
     ensures { λ r. ⌜ r ≡ steps p n o ⌝ }
     ensures { λ _. ⌜ now (dst .exit) ≡ written (now (dst .entry)) 0 (outs p id (now (region .entry)) n o) ⌝ }
 {

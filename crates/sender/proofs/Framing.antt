@@ -34,7 +34,7 @@ use Rattle.row.specs.declared.Out.{Out}
 use Rattle.queue.proofs.Taken.{headLen-p}
 use Rattle.row.proofs.Steps.{Fit, fit-back, outs-length}
 use Rattle.sender.specs.State.{queueOf, indexOf, outOf, brokenState, waitingOf}
-use Rattle.sender.specs.Frame.{handOf, rowAt, nulls, framePackets, endOf, endsOf, nextFrom, closed, closedAll, frameTests, frameNumber, framed, frameFor, frameBytes, outFor, storeAfter}
+use Rattle.sender.specs.Frame.{handOf, rowAt, nulls, framePackets, endOf, endsOf, nextFrom, closed, closedAll, frameTests, frameNumber, framed, frameFor, frameBytes, frameOut, storeAfter}
 use Rattle.sender.specs.Private.{Ready}
 use Rattle.sender.specs.Private as private
 use Rattle.sender.specs.declared.Front.{Front}
@@ -264,16 +264,16 @@ module _ (g : Settings) (s : Front) (room size : ℕ) (f : private.Fit g s room 
 module _ (g : Settings) (s : Front) (store out : List ℕ) (k : ℕ) (e : k ≡ refusedWith (frameTests g s (length store) (length out))) where
   pub frame-refused : (k ≡ 0 → ⊥)
       → (_≡_ {A = Framed} (record { number = k; next = s; packets = noThree; spares = 0; filler = 0 }) (frameFor g s store out))
-      × ((store ≡ storeAfter g s store out) × (out ≡ outFor g s store out))
-  unfolding frameFor storeAfter outFor frameNumber
+      × ((store ≡ storeAfter g s store out) × (out ≡ frameOut g s store out))
+  unfolding frameFor storeAfter frameOut frameNumber
   frame-refused h = (simp (← e, ne-eqb k 0 h), (simp (← e, ne-eqb k 0 h), simp (← e, ne-eqb k 0 h)))
 
   pub frame-fit : k ≡ 0 → private.Fit g s (length store) (length out)
   frame-fit z = fit-of g s (length store) (length out) (sym e ∙ z)
 
   pub frame-done : k ≡ 0 → (r : Framed) (d f : List ℕ) → r ≡ framed g s → d ≡ closedAll (g .p) s (handOf g s .packets) store → f ≡ written out 0 (frameBytes g s store)
-      → (r ≡ frameFor g s store out) × ((d ≡ storeAfter g s store out) × (f ≡ outFor g s store out))
-  unfolding frameFor storeAfter outFor frameNumber
+      → (r ≡ frameFor g s store out) × ((d ≡ storeAfter g s store out) × (f ≡ frameOut g s store out))
+  unfolding frameFor storeAfter frameOut frameNumber
   frame-done z r d f er ed ef = (simp (← e, z) er, (simp (← e, z) ed, simp (← e, z) ef))
 
 -- ---- the store

@@ -19,7 +19,8 @@ use Rattle.queue.specs.Queue.{unsent, pushed}
 use Rattle.queue.specs.declared.Queue.{Queue}
 use Rattle.laws.proofs.Flags.{or-false}
 use Rattle.sender.specs.State.{queueOf, brokenState, putQueue}
-use Rattle.sender.specs.Load.{full, loadTests, loadNumber, loaded, placedIn, loadFor, storeFor, Accepted}
+use Rattle.sender.specs.Load.{full, loadTests, loadNumber, loaded, placedIn, loadFor, storeFor}
+use Rattle.sender.specs.Private.{Accepted}
 use Rattle.sender.specs.declared.Front.{Front}
 use Rattle.sender.specs.Answers.{Loaded}
 

@@ -9,7 +9,7 @@ use Rattle.sender.specs.State as states
 use Rattle.sender.specs.Load.{loadFor, storeFor}
 use Rattle.hand.specs.declared.Settings.{Settings}
 use Rattle.sender.specs.declared.Loaded.{Loaded}
-use Rattle.sender.specs.Frame.{frameFor, storeAfter, outFor}
+use Rattle.sender.specs.Frame.{frameFor, storeAfter, frameOut}
 use Rattle.sender.specs.declared.Framed.{Framed}
 use Rattle.sender.specs.Outer.{outer, outerLoaded, outerFramed}
 
@@ -25,11 +25,11 @@ load = settled-both (λ i. outerLoaded (loadFor (i .0) (i .1 .front) (i .2) (i .
 -- the answer, the store and the output; an input is the settings, the state, and store and output before the call
 pub frame : Settles (λ (i : Settings × Sender × List ℕ × List ℕ) (o : Framed × (List ℕ × List ℕ)).
     (o .0 ≡ outerFramed (frameFor (i .0) (i .1 .front) (i .2) (i .3)))
-    × ((o .1 .0 ≡ storeAfter (i .0) (i .1 .front) (i .2) (i .3)) × (o .1 .1 ≡ outFor (i .0) (i .1 .front) (i .2) (i .3))))
+    × ((o .1 .0 ≡ storeAfter (i .0) (i .1 .front) (i .2) (i .3)) × (o .1 .1 ≡ frameOut (i .0) (i .1 .front) (i .2) (i .3))))
 frame i x y p q =
     ap₂
     (λ a m. (a, m))
     (p .0 ∙ sym (q .0))
     (settled-both
     (λ (i : Settings × Sender × List ℕ × List ℕ). storeAfter (i .0) (i .1 .front) (i .2) (i .3))
-    (λ i. outFor (i .0) (i .1 .front) (i .2) (i .3)) i (x .1) (y .1) (p .1) (q .1))
+    (λ i. frameOut (i .0) (i .1 .front) (i .2) (i .3)) i (x .1) (y .1) (p .1) (q .1))

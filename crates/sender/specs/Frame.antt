@@ -91,8 +91,8 @@ unfoldable pub frameBytes : Settings → Front → List ℕ → List ℕ
 frameBytes g s store = framePackets (g .p) s store (handOf g s .packets) (handOf g s .filler)
 
 -- the output and the store after the call
-unfoldable pub outFor : Settings → Front → List ℕ → List ℕ → List ℕ
-outFor g s store out = pick (eqb (frameNumber g s store out) 0) (written out 0 (frameBytes g s store)) out
+unfoldable pub frameOut : Settings → Front → List ℕ → List ℕ → List ℕ
+frameOut g s store out = pick (eqb (frameNumber g s store out) 0) (written out 0 (frameBytes g s store)) out
 
 unfoldable pub storeAfter : Settings → Front → List ℕ → List ℕ → List ℕ
 storeAfter g s store out = pick (eqb (frameNumber g s store out) 0) (closedAll (g .p) s (handOf g s .packets) store) store

@@ -1,6 +1,5 @@
 -- Loading a unit (01, "Packets, queues and receiver"). Assumes nothing.
-use Prim.Native.Nat.{ℕ, _+_, _*_, _≤_, _<_}
-use mathlib.Core.Path.{_≡_}
+use Prim.Native.Nat.{ℕ, _+_, _*_}
 use mathlib.Core.List.{List, [], _∷_}
 use mathlib.Core.Bool.{Bool, not, _||_}
 use lib.Dec.{ltb, leb, eqb}
@@ -44,12 +43,3 @@ loadFor g s id unit store =
 
 unfoldable pub storeFor : Settings → Front → ℕ → List ℕ → List ℕ → List ℕ
 storeFor g s id unit store = pick (eqb (loadNumber g s id unit store) 0) (placedIn s id unit store) store
-
--- what an accepted unit meets
-pub record Accepted (s : Front) (id n room : ℕ) : Type 0 where
-  pub one : 1 ≤ n
-  pub most : n ≤ 4096
-  pub id-in : id < 3
-  pub count-in : queueOf s id .count < 8
-  pub fits : n + unsent (queueOf s id) ≤ 4096
-  pub whole : room ≡ 12288

@@ -11,10 +11,10 @@ ghost use Rattle.laws.specs.Refuse.{refusedWith};
 ghost use Rattle.laws.specs.Written.{written};
 ghost use Rattle.hand.specs.Settings.{total};
 ghost use Rattle.sender.specs.State.{indexOf, brokenState, fresh, waitingOf};
-ghost use Rattle.sender.specs.Load.{full, loadTests, loadFor, storeFor, Accepted, loaded, placedIn};
-ghost use Rattle.sender.specs.Private.{Ready, Fit};
+ghost use Rattle.sender.specs.Load.{full, loadTests, loadFor, storeFor, loaded, placedIn};
+ghost use Rattle.sender.specs.Private.{Accepted, Ready, Fit};
 ghost use Rattle.sender.specs.Outer.{outer, outerLoaded, outerFramed};
-ghost use Rattle.sender.specs.Frame.{endOf, endsOf, nextFrom, rowAt, nulls, framePackets, closed, closedAll, frameTests, handOf, framed, frameBytes, frameFor, storeAfter, outFor};
+ghost use Rattle.sender.specs.Frame.{endOf, endsOf, nextFrom, rowAt, nulls, framePackets, closed, closedAll, frameTests, handOf, framed, frameBytes, frameFor, storeAfter, frameOut};
 
 // The three queues, whose turn it is to get a spare, and the next continuity index of each id, filler last.
 // The unsent bytes of each queue stand at the front of its part of the store: hence the name.
@@ -354,7 +354,7 @@ impl Sender {
     pub fn frame(self, settings: Settings, store: &mut [u8], out: &mut [u8]) -> Framed
         ensures answer { λ r. ⌜ r ≡ outerFramed (frameFor settings (self .front) (now (store .entry)) (now (out .entry))) ⌝ }
         ensures memory { λ _. ⌜ now (store .exit) ≡ storeAfter settings (self .front) (now (store .entry)) (now (out .entry)) ⌝ }
-        ensures output { λ _. ⌜ now (out .exit) ≡ outFor settings (self .front) (now (store .entry)) (now (out .entry)) ⌝ }
+        ensures output { λ _. ⌜ now (out .exit) ≡ frameOut settings (self .front) (now (store .entry)) (now (out .entry)) ⌝ }
     {
         let front = self.front;
         let number = front.frame_number(settings, store.len(), out.len());
