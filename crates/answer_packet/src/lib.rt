@@ -1,5 +1,6 @@
 // Calls 30 to 32 of docs/CASES.md: one data packet. Nothing here decides an answer.
 use cases::case;
+use packet::Head;
 use saying::Said;
 
 fn number_at(body: &[u8], at: usize) -> usize {
@@ -10,14 +11,20 @@ pub fn packet_check(body: &[u8], s: &[u8]) -> Said {
     saying::begin(packet::check(number_at(body, 0), s), 0)
 }
 
-// What the packet says, and its useful bytes.
-pub fn packet_read(body: &[u8], s: &[u8], fits: bool, out: &mut [u8]) -> usize {
-    let p = number_at(body, 0);
-    let h = packet::read(p, s);
+fn told(h: Head) -> Said {
     let said = saying::begin(h.number, 0);
     let said = saying::three(said, h.first as u64, h.last as u64, h.id as u64);
-    let said = saying::three(said, h.padded as u64, h.index as u64, h.length as u64);
-    saying::lent(out, saying::only_if(said, fits), packet::useful(p, s))
+    saying::three(said, h.padded as u64, h.index as u64, h.length as u64)
+}
+
+// What the packet says, and its useful bytes.
+pub fn packet_read(body: &[u8], out: &mut [u8]) -> usize {
+    let mut room = [0u8; case::BUFFER];
+    let taken = case::buffer(body, 8, &mut room);
+    let s = case::front(&room, taken.len);
+    let p = number_at(body, 0);
+    let said = saying::only_if(told(packet::read(p, s)), case::ends(taken, body));
+    saying::lent(out, said, packet::useful(p, s))
 }
 
 pub fn packet_write(body: &[u8], useful: &[u8], dst: &mut [u8]) -> Said {

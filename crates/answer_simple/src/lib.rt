@@ -1,0 +1,124 @@
+// Calls of docs/CASES.md that are handed at most one buffer to read and one to write to. What stands in a case is read by the form of its
+// call, and a function of one of the libraries below says what came back. A new call is such a function, its form, and a line of `say`.
+use cases::case;
+use cases::case::Taken;
+use saying::Said;
+
+// Bytes before the first buffer and between the two; and which buffers there are: one to read, one that is lent to write to.
+struct Form {
+    head: usize,
+    gap: usize,
+    reads: bool,
+    lends: bool,
+}
+
+fn bare(head: usize) -> Form {
+    Form {
+        head,
+        gap: 0,
+        reads: false,
+        lends: false,
+    }
+}
+
+fn reads(head: usize) -> Form {
+    Form {
+        head,
+        gap: 0,
+        reads: true,
+        lends: false,
+    }
+}
+
+fn writes(head: usize) -> Form {
+    Form {
+        head,
+        gap: 0,
+        reads: false,
+        lends: true,
+    }
+}
+
+fn pair(head: usize, gap: usize) -> Form {
+    Form {
+        head,
+        gap,
+        reads: true,
+        lends: true,
+    }
+}
+
+fn form_of(call: u8) -> Form {
+    match call {
+        22 => bare(12),
+        23 => bare(24),
+        28 => bare(8),
+        1 | 2 | 21 | 24 => reads(0),
+        25 | 30 => reads(8),
+        4 => reads(9),
+        26 => writes(0),
+        20 => writes(12),
+        5 => writes(17),
+        32 => pair(12, 0),
+        27 => pair(0, 8),
+        _ => pair(0, 0),
+    }
+}
+
+// What a call says. The body goes on at `between` behind the buffer that it reads.
+fn say(call: u8, body: &[u8], between: usize, s: &[u8], dst: &mut [u8]) -> Said {
+    match call {
+        1 => answer_leaves::crc8(s),
+        2 => answer_leaves::crc16(s),
+        3 => answer_leaves::disperse(s, dst),
+        4 => answer_leaves::number_read(body, s),
+        5 => answer_leaves::number_write(body, dst),
+        20 => answer_clock::stamp_write(body, dst),
+        21 => answer_clock::stamp_read(s),
+        22 => answer_clock::stamp_next(body),
+        23 => answer_clock::stamp_follows(body),
+        24 => answer_clock::recording_open(s),
+        25 => answer_clock::recording_next(body, s),
+        26 => answer_clock::recording_start(dst),
+        27 => answer_clock::recording_append(body, between, s, dst),
+        28 => answer_clock::date(body),
+        30 => answer_packet::packet_check(body, s),
+        32 => answer_packet::packet_write(body, s, dst),
+        _ => saying::only_if(saying::begin(0, 0), false),
+    }
+}
+
+// The buffer at a position of the body, where there is one.
+fn taken(has: bool, body: &[u8], at: usize, into: &mut [u8]) -> Taken {
+    if has {
+        return case::buffer(body, at, into);
+    }
+    Taken {
+        whole: true,
+        len: 0,
+        next: at,
+    }
+}
+
+fn plain(call: u8, body: &[u8], out: &mut [u8]) -> usize {
+    let mut one = [0u8; case::BUFFER];
+    let mut two = [0u8; case::BUFFER];
+    let f = form_of(call);
+    let s = taken(f.reads, body, f.head, &mut one);
+    let t = taken(f.lends, body, case::past(s.next, f.gap), &mut two);
+    let dst = case::front_mut(&mut two, t.len);
+    let said = say(call, body, s.next, case::front(&one, s.len), dst);
+    let said = saying::only_if(said, s.whole & case::ends(t, body));
+    if f.lends {
+        return saying::lent(out, said, dst);
+    }
+    saying::alone(out, said)
+}
+
+// The call that gives back a part of what it reads has a form of its own.
+pub fn answer(call: u8, body: &[u8], out: &mut [u8]) -> usize {
+    if call == 31 {
+        return answer_packet::packet_read(body, out);
+    }
+    plain(call, body, out)
+}
