@@ -3,18 +3,13 @@ use Rattle.mdi.proofs.Ways.{first-none}
 use borrow.Author.Needs.{needs}
 use Rattle.mdi.proofs.first.Statement.{statement}
 use Rattle.mdi.proofs.first.Tie as tie
-use Rattle.mdi.proofs.first.Reads as reads
-use Rattle.mdi.proofs.first.Lts as lts
 
--- src/lib.rt:25:9
 returns : tie.Need-returns
 returns c = search first-none
 
--- src/lib.rt:27:5
 shared-slice-read-result : tie.Need-shared-slice-read-result
 shared-slice-read-result c = search needs
 
--- src/lib.rt:21:1
 returns-2 : tie.Need-returns-2
 returns-2 c = search needs
 

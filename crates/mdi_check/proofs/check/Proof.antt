@@ -4,55 +4,42 @@ use borrow.Author.Needs.{needs}
 use Rattle.mdi_check.proofs.check.Statement.{statement}
 use Rattle.mdi_check.proofs.check.Tie as tie
 
--- src/lib.rt:184:9
 refused-requires : tie.Need-refused-requires
 refused-requires c κs = search needs
 
--- src/lib.rt:184:9
 returns : tie.Need-returns
 returns c = search way-1
 
--- src/lib.rt:186:9
 find-all-requires : tie.Need-find-all-requires
 find-all-requires c κs = search needs
 
--- src/lib.rt:187:13
 sub-if2 : tie.Need-sub-if2
 sub-if2 c = search needs
 
--- src/lib.rt:188:9
 refused-requires-2 : tie.Need-refused-requires-2
 refused-requires-2 c κs = search needs
 
--- src/lib.rt:188:9
 returns-2 : tie.Need-returns-2
 returns-2 c = search way-2
 
--- src/lib.rt:190:9
 first-again-requires : tie.Need-first-again-requires
 first-again-requires c κs = search needs
 
--- src/lib.rt:192:9
 refused-requires-3 : tie.Need-refused-requires-3
 refused-requires-3 c κs = search needs
 
--- src/lib.rt:192:9
 returns-3 : tie.Need-returns-3
 returns-3 c = search way-3
 
--- src/lib.rt:195:9
 check-items-requires : tie.Need-check-items-requires
 check-items-requires c κs = search spots-of
 
--- src/lib.rt:197:9
 refused-requires-4 : tie.Need-refused-requires-4
 refused-requires-4 c κs = search needs
 
--- src/lib.rt:197:9
 returns-4 : tie.Need-returns-4
 returns-4 c = search way-on
 
--- src/lib.rt:180:1
 returns-5 : tie.Need-returns-5
 returns-5 c = search way-done
 

@@ -4,51 +4,39 @@ use borrow.Author.Needs.{needs}
 use Rattle.mdi_check.proofs.check_items.Statement.{statement}
 use Rattle.mdi_check.proofs.check_items.Tie as tie
 
--- src/lib.rt:162:8
 missing-requires : tie.Need-missing-requires
 missing-requires c κs = search needs
 
--- src/lib.rt:163:9
 returns : tie.Need-returns
 returns c = search no-4
 
--- src/lib.rt:165:8
 bad-length-requires : tie.Need-bad-length-requires
 bad-length-requires c κs = search needs
 
--- src/lib.rt:166:9
 returns-2 : tie.Need-returns-2
 returns-2 c = search no-5
 
--- src/lib.rt:168:8
 bad-value-requires : tie.Need-bad-value-requires
 bad-value-requires c κs = search needs
 
--- src/lib.rt:169:9
 returns-3 : tie.Need-returns-3
 returns-3 c = search no-6
 
--- src/lib.rt:171:8
 bad-fac-requires : tie.Need-bad-fac-requires
 bad-fac-requires c κs = search needs
 
--- src/lib.rt:172:9
 returns-4 : tie.Need-returns-4
 returns-4 c = search no-7
 
--- src/lib.rt:174:8
 bad-sdc-requires : tie.Need-bad-sdc-requires
 bad-sdc-requires c κs = search needs
 
--- src/lib.rt:175:9
 returns-5 : tie.Need-returns-5
 returns-5 c = search no-8
 
--- src/lib.rt:177:5
 check-contents-requires : tie.Need-check-contents-requires
 check-contents-requires c κs = search needs
 
--- src/lib.rt:158:1
 returns-6 : tie.Need-returns-6
 returns-6 c = search no-more
 

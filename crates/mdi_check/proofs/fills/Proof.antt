@@ -3,28 +3,19 @@ use Rattle.mdi_check.proofs.Values.{fills-is}
 use borrow.Author.Needs.{needs}
 use Rattle.mdi_check.proofs.fills.Statement.{statement}
 use Rattle.mdi_check.proofs.fills.Tie as tie
-use Rattle.mdi_check.proofs.fills.Reads as reads
-use Rattle.mdi_check.proofs.fills.Lts as lts
-use Rattle.items.proofs.bytes.Reads as bytes-reads
-use Rattle.mdi_check.proofs.wide.Reads as wide-reads
 
--- src/lib.rt:112:5
 bytes-requires : tie.Need-bytes-requires
 bytes-requires c κs = search needs
 
--- src/lib.rt:112:27
 wide-requires : tie.Need-wide-requires
 wide-requires c κs = search needs
 
--- src/lib.rt:112:39
 wide-requires-2 : tie.Need-wide-requires-2
 wide-requires-2 c κs = search needs
 
--- src/lib.rt:112:27
 add-result : tie.Need-add-result
 add-result c = search needs
 
--- src/lib.rt:109:1
 returns : tie.Need-returns
 returns c = fills-is _ _ _ _ _ (c .before .before .bytes .ensures .0) (c .before .wide .ensures .0) (c .wide2 .ensures .0)
 

@@ -5,18 +5,13 @@ use Rattle.mdi_check.proofs.Values.{mode-none}
 use borrow.Author.Needs.{needs}
 use Rattle.mdi_check.proofs.is_known_mode.Statement.{statement}
 use Rattle.mdi_check.proofs.is_known_mode.Tie as tie
-use Rattle.mdi_check.proofs.is_known_mode.Reads as reads
-use Rattle.mdi_check.proofs.is_known_mode.Lts as lts
 
--- src/lib.rt:45:9
 returns : tie.Need-returns
 returns c = search mode-none
 
--- src/lib.rt:47:5
 shared-slice-read-result : tie.Need-shared-slice-read-result
 shared-slice-read-result c = search needs
 
--- src/lib.rt:41:1
 returns-2 : tie.Need-returns-2
 unfolding knownMode
 returns-2 c = refl

@@ -4,10 +4,7 @@ use Rattle.mdi_spots.specs.Spotted.{spotsOf}
 use mathlib.Core.Path.{refl}
 use Rattle.mdi_check.proofs.refused.Statement.{statement}
 use Rattle.mdi_check.proofs.refused.Tie as tie
-use Rattle.mdi_check.proofs.refused.Reads as reads
-use Rattle.mdi_check.proofs.refused.Lts as lts
 
--- src/lib.rt:25:1
 returns : tie.Need-returns
 unfolding spotsOf find spotOf
 returns c = refl

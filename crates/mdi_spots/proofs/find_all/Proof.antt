@@ -7,31 +7,22 @@ use Rattle.mdi_spots.proofs.Ways.{found}
 use borrow.Author.Needs.{needs}
 use Rattle.mdi_spots.proofs.find_all.Statement.{statement}
 use Rattle.mdi_spots.proofs.find_all.Tie as tie
-use Rattle.mdi_spots.proofs.find_all.Reads as reads
-use Rattle.mdi_spots.proofs.find_all.Lts as lts
-use Rattle.tag_spots.proofs.find_all.Reads as find-all-reads
 
--- src/lib.rt:46:39
 slice-aggregate-find-all : tie.Need-slice-aggregate-find-all
 slice-aggregate-find-all c = search needs
 
--- src/lib.rt:46:47
 slice-aggregate-find-all-2 : tie.Need-slice-aggregate-find-all-2
 slice-aggregate-find-all-2 c = search needs
 
--- src/lib.rt:46:55
 slice-aggregate-find-all-3 : tie.Need-slice-aggregate-find-all-3
 slice-aggregate-find-all-3 c = search needs
 
--- src/lib.rt:46:67
 slice-aggregate-find-all-4 : tie.Need-slice-aggregate-find-all-4
 slice-aggregate-find-all-4 c = search needs
 
--- src/lib.rt:46:9
 find-all-requires : tie.Need-find-all-requires
 find-all-requires c κs = search needs
 
--- src/lib.rt:41:1
 returns : tie.Need-returns
 unfolding keysOf keyAt numberAt bigOf
 returns c =

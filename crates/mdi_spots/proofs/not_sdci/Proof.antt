@@ -3,10 +3,7 @@ use Rattle.mdi_spots.specs.Spotted.{wrongAt}
 use mathlib.Core.Path.{refl}
 use Rattle.mdi_spots.proofs.not_sdci.Statement.{statement}
 use Rattle.mdi_spots.proofs.not_sdci.Tie as tie
-use Rattle.mdi_spots.proofs.not_sdci.Reads as reads
-use Rattle.mdi_spots.proofs.not_sdci.Lts as lts
 
--- src/lib.rt:79:1
 returns : tie.Need-returns
 unfolding wrongAt
 returns c = refl

@@ -3,10 +3,7 @@ use Rattle.mdi_spots.specs.Spotted.{wrongAt}
 use mathlib.Core.Path.{refl}
 use Rattle.mdi_spots.proofs.not_whole.Statement.{statement}
 use Rattle.mdi_spots.proofs.not_whole.Tie as tie
-use Rattle.mdi_spots.proofs.not_whole.Reads as reads
-use Rattle.mdi_spots.proofs.not_whole.Lts as lts
 
--- src/lib.rt:66:1
 returns : tie.Need-returns
 unfolding wrongAt
 returns c = refl

@@ -3,30 +3,22 @@ use Rattle.mdi_spots.proofs.Ways.{no-row}
 use borrow.Author.Needs.{needs}
 use Rattle.mdi_spots.proofs.spot.Statement.{statement}
 use Rattle.mdi_spots.proofs.spot.Tie as tie
-use Rattle.mdi_spots.proofs.spot.Reads as reads
-use Rattle.mdi_spots.proofs.spot.Lts as lts
 
--- src/lib.rt:56:9
 returns : tie.Need-returns
 returns c = no-row (c .before .args .t1) _ (search needs) (search needs) (c .if1 .taken)
 
--- src/lib.rt:58:17
 mul-start : tie.Need-mul-start
 mul-start c = search needs
 
--- src/lib.rt:58:17
 element-copy-out-start : tie.Need-element-copy-out-start
 element-copy-out-start c = search needs
 
--- src/lib.rt:59:16
 mul-bits : tie.Need-mul-bits
 mul-bits c = search needs
 
--- src/lib.rt:59:16
 element-copy-out-bits : tie.Need-element-copy-out-bits
 element-copy-out-bits c = search needs
 
--- src/lib.rt:52:1
 returns-2 : tie.Need-returns-2
 returns-2 c = search needs
 
