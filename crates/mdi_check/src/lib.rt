@@ -7,7 +7,6 @@ use mdi_spots::Spots;
 ghost use mathlib.Core.Path.{_≡_};
 ghost use mathlib.Core.Bool.{not};
 ghost use Rattle.laws.specs.Refuse.{refusedWith};
-ghost use Rattle.laws.specs.Big.{numberAt};
 ghost use lib.Dec.{eqb};
 ghost use Prim.Native.Nat.{_+_, _<_};
 ghost use Rattle.items.specs.Items.{cutOf, bytesFor};
@@ -43,17 +42,11 @@ fn is_there(x: Spot) -> bool
     !(x.start == 0)
 }
 
-// The number of four letters.
-fn number_of(letters: &[u8]) -> u32
-    ensures { λ r. ⌜ r ≡ numberAt 4 (now (letters .entry)) 0 ⌝ }
-{
-    fields::read32(letters, 0)
-}
-
 fn is_protocol(v: &[u8]) -> bool
     ensures { λ r. ⌜ r ≡ protocol (now (v .entry)) ⌝ }
 {
-    (fields::read32(v, 0) == number_of(b"DMDI")) & (fields::read16(v, 4) == 0)
+    let opening = mdi_spots::OPENING;
+    (fields::read32(v, 0) == fields::read32(&opening, 0)) & (fields::read16(v, 4) == 0)
 }
 
 fn is_known_mode(v: &[u8]) -> bool

@@ -25,12 +25,12 @@ use Rattle.sdc.specs.Block as block
 use Rattle.items.specs.Items.{Item, Found, none, some, cutOf, find, twice, isThere, valueOf, Once}
 use Rattle.items.proofs.Once.{once-of, of-once}
 use Rattle.mdi_spots.specs.Names.{ptr, dlfc, fac, sdc, sdci, robm, str0, str1, str2, str3, tist}
-use Rattle.mdi_spots.specs.Table.{Row, table, anyRow, absent, wrong, ill, exactly, wholeBytes, sdcBits, sdciBits, missing, badLength}
+use Rattle.mdi_spots.specs.Table.{Row, table, nameOf, anyRow, absent, wrong, ill, exactly, wholeBytes, sdcBits, sdciBits, missing, badLength}
 use Rattle.mdi_check.specs.Conditions.{protocol, knownMode, onTime, served, mscMode, agrees, badValue, badFac, badSdc, unserved, badDescription, badStreams}
 use Rattle.mdi_check.specs.Conditions as conditions
 use Rattle.mdi_check.specs.Refusals.{itemTests, testsFor}
 use Rattle.mdi.specs.Reading.{streamOf}
-use Rattle.mdi_laws.specs.WellFormed.{Required, Optional, Exactly, WholeBytes, SdcBits, SdciBits, Anything, Protocol, Channel, BlockOrNone, Robustness, Milliseconds, descriptionIn, WellFormed}
+use Rattle.mdi_laws.specs.WellFormed.{Required, Optional, Exactly, WholeBytes, SdcBits, SdciBits, Anything, Protocol, GoodFac, BlockOrNone, Robustness, Milliseconds, descriptionIn, WellFormed}
 use Rattle.mdi_laws.proofs.Items.{not-no, required, required-back, optional, optional-back, always, ill-always, ill-both, ill-each}
 use Rattle.mdi_laws.proofs.Meaning.{of-header, of-count, of-channel, of-block, of-description, of-robustness, of-stream, of-time}
 
@@ -136,6 +136,13 @@ module _ (p : List ℕ) where
     known = three (ill protocol (find ptr is)) (ill knownMode (find robm is)) (ill onTime (find tist is)) v;
   }
 
+  streams-sized : NoRow (λ r. wrong (r .allowed) (find (r .name) is)) table → (k : ℕ) → k < 4 → wrong wholeBytes (find (nameOf (6 + k)) is) ≡ false
+  streams-sized n zero h = n .1 .1 .1 .1 .1 .1 .0
+  streams-sized n (suc zero) h = n .1 .1 .1 .1 .1 .1 .1 .0
+  streams-sized n (suc (suc zero)) h = n .1 .1 .1 .1 .1 .1 .1 .1 .0
+  streams-sized n (suc (suc (suc zero))) h = n .1 .1 .1 .1 .1 .1 .1 .1 .1 .0
+  streams-sized n (suc (suc (suc (suc k)))) h = absurd (omega arith)
+
   abbrev d : Description
   d = descriptionIn is
 
@@ -179,14 +186,11 @@ module _ (p : List ℕ) where
         once = once-of is (f .1 .1 .0);
         header = required p ptr (exactly 64) (Exactly 64) protocol Protocol of-header (q .there .0) (q .sized .0) (q .known .0);
         count = required p dlfc (exactly 32) (Exactly 32) always Anything of-count (q .there .1 .0) (q .sized .1 .0) (ill-always (find dlfc is));
-        channel = required p fac (exactly 72) (Exactly 72) (λ v. fast.sealed v && served v) Channel of-channel (q .there .1 .1 .0) (q .sized .1 .1 .0) (ill-both fast.sealed served (find fac is) (g .1 .1 .1 .0) (g .1 .1 .1 .1 .1 .0));
+        channel = required p fac (exactly 72) (Exactly 72) (λ v. fast.sealed v && served v) GoodFac of-channel (q .there .1 .1 .0) (q .sized .1 .1 .0) (ill-both fast.sealed served (find fac is) (g .1 .1 .1 .0) (g .1 .1 .1 .1 .1 .0));
         block = optional p sdc sdcBits SdcBits block.sealed BlockOrNone of-block (q .sized .1 .1 .1 .0) (g .1 .1 .1 .1 .0);
         description = w;
         robustness = required p robm (exactly 8) (Exactly 8) knownMode Robustness of-robustness (q .there .1 .1 .1 .1 .1 .0) (q .sized .1 .1 .1 .1 .1 .0) (q .known .1);
-        stream0 = optional p str0 wholeBytes WholeBytes always Anything of-stream (q .sized .1 .1 .1 .1 .1 .1 .0) (ill-always (find str0 is));
-        stream1 = optional p str1 wholeBytes WholeBytes always Anything of-stream (q .sized .1 .1 .1 .1 .1 .1 .1 .0) (ill-always (find str1 is));
-        stream2 = optional p str2 wholeBytes WholeBytes always Anything of-stream (q .sized .1 .1 .1 .1 .1 .1 .1 .1 .0) (ill-always (find str2 is));
-        stream3 = optional p str3 wholeBytes WholeBytes always Anything of-stream (q .sized .1 .1 .1 .1 .1 .1 .1 .1 .1 .0) (ill-always (find str3 is));
+        streams = λ k h. optional p (nameOf (6 + k)) wholeBytes WholeBytes always Anything of-stream (streams-sized (q .sized) k h) (ill-always (find (nameOf (6 + k)) is));
         time = optional p tist (exactly 64) (Exactly 64) onTime Milliseconds of-time (q .sized .1 .1 .1 .1 .1 .1 .1 .1 .1 .1 .0) (q .known .2);
         filled = λ k h. n k;
         empty = λ k h. n k ∙ ap (λ (l : Lengths). l .a + l .b) (s .behind k h);
@@ -204,15 +208,13 @@ module _ (p : List ℕ) where
   accepts w =
       let h = required-back p ptr (exactly 64) (Exactly 64) protocol Protocol of-header (w .header) in
       let c = required-back p dlfc (exactly 32) (Exactly 32) always Anything of-count (w .count) in
-      let f = required-back p fac (exactly 72) (Exactly 72) (λ v. fast.sealed v && served v) Channel of-channel (w .channel) in
+      let f = required-back p fac (exactly 72) (Exactly 72) (λ v. fast.sealed v && served v) GoodFac of-channel (w .channel) in
       let ff = ill-each fast.sealed served (find fac is) (f .2) in
       let b = optional-back p sdc sdcBits SdcBits block.sealed BlockOrNone of-block (w .block) in
       let x = required-back p sdci sdciBits SdciBits (λ v. not (illFormed (mscMode is) (describedBy v))) (λ v. described.WellFormed (mscMode is) (describedBy v)) (of-description (mscMode is)) (w .description) in
       let r = required-back p robm (exactly 8) (Exactly 8) knownMode Robustness of-robustness (w .robustness) in
-      let s0 = optional-back p str0 wholeBytes WholeBytes always Anything of-stream (w .stream0) in
-      let s1 = optional-back p str1 wholeBytes WholeBytes always Anything of-stream (w .stream1) in
-      let s2 = optional-back p str2 wholeBytes WholeBytes always Anything of-stream (w .stream2) in
-      let s3 = optional-back p str3 wholeBytes WholeBytes always Anything of-stream (w .stream3) in
+      let s : (k : ℕ) → k < 4 → (wrong wholeBytes (find (nameOf (6 + k)) is) ≡ false) × (ill always (find (nameOf (6 + k)) is) ≡ false) =
+      λ k h. optional-back p (nameOf (6 + k)) wholeBytes WholeBytes always Anything of-stream (w .streams k h) in
       let t = optional-back p tist (exactly 64) (Exactly 64) onTime Milliseconds of-time (w .time) in
       let l = agreed-back (lengths-back is d four (all-lengths w)) in
       accepted (testsFor p) (
@@ -224,7 +226,7 @@ module _ (p : List ℕ) where
             (
               no-row (λ r. r .required && absent (find (r .name) is)) table (h .0, (c .0, (f .0, (refl, (x .0, (r .0, (refl, (refl, (refl, (refl, (refl, tt))))))))))),
               (
-                no-row (λ r. wrong (r .allowed) (find (r .name) is)) table (h .1, (c .1, (f .1, (b .0, (x .1, (r .1, (s0 .0, (s1 .0, (s2 .0, (s3 .0, (t .0, tt))))))))))),
+                no-row (λ r. wrong (r .allowed) (find (r .name) is)) table (h .1, (c .1, (f .1, (b .0, (x .1, (r .1, (s 0 (lit< tt) .0, (s 1 (lit< tt) .0, (s 2 (lit< tt) .0, (s 3 (lit< tt) .0, (t .0, tt))))))))))),
                 (
                   rw (h .2, r .2, t .1) refl,
                   (

@@ -36,13 +36,13 @@ use Rattle.mdi.specs.Reading.{timeOf, recordOf, readFor, streamOf, streamFor}
 use Rattle.mdi.specs.declared.Answer.{Answer}
 use Rattle.mdi_write.specs.Packet.{Streams, four, packetOf}
 use Rattle.mdi_write.specs.Answers.{anyLong, badTime, tooLarge, agreed, Fits}
-use Rattle.mdi_laws.specs.Ignored.{Plain}
 use Rattle.mdi_laws.specs.Typed.{Typed}
+use Rattle.mdi_laws.specs.RoundTrips.{streamsFor}
 use Rattle.mdi_laws.specs.WellFormed.{WellFormed}
 use Rattle.mdi_laws.proofs.Accepts.{rising, well}
-use Rattle.mdi_laws.proofs.Ignored.{place-left}
+use Rattle.mdi_laws.proofs.Ignored.{Plain, place-left}
 use Rattle.mdi_laws.proofs.Values.{said-most, agreed-each}
-use Rattle.mdi_laws.proofs.Back.{read-back, stream-back}
+use Rattle.mdi_laws.proofs.Back.{read-back, streams-back}
 
 abbrev isSome : Found → Bool
 isSome none = false
@@ -63,7 +63,7 @@ good-of good none i e h = absurd (true≢false (sym (ap isSome e)))
 good-of good (some j) i e h = not-false _ h
 
 -- the streams of a packet
-abbrev pub streamsIn : List Item → Streams
+abbrev streamsIn : List Item → Streams
 streamsIn is = four (valueOf (find name.str0 is)) (valueOf (find name.str1 is)) (valueOf (find name.str2 is)) (valueOf (find name.str3 is))
 
 module _ (p : List ℕ) (b : Bytes p) (e : refusedWith (testsFor p) ≡ 0) where
@@ -153,36 +153,23 @@ module _ (p : List ℕ) (b : Bytes p) (e : refusedWith (testsFor p) ≡ 0) where
   plain-read : Plain p
   plain-read = record { short = w .short; whole = w .whole; once = w .once }
 
-  read-is : readFor p ≡ record { number = 0; place = 0; content = recordOf (cutOf p .items) }
+  pub read-is : readFor p ≡ record { number = 0; place = 0; content = recordOf (cutOf p .items) }
   unfolding readFor
   read-is = rw (e, place-left p plain-read) refl
 
-  -- B3: the record
-  pub again : readFor (packetOf (readFor p .content) (streamsIn (cutOf p .items))) ≡ readFor p
-  again =
-      ap (λ (a : Answer). readFor (packetOf (a .content) (streamsIn (cutOf p .items)))) read-is
-      ∙ read-back (recordOf (cutOf p .items)) (streamsIn (cutOf p .items)) typed fits-read
-      ∙ sym read-is
-
-  streams-are : four (streamFor p 0) (streamFor p 1) (streamFor p 2) (streamFor p 3) ≡ streamsIn (cutOf p .items)
+  pub streams-are : streamsFor p ≡ streamsIn (cutOf p .items)
   unfolding streamFor streamOf
   streams-are = rw e refl
 
-  -- and the streams, in the words of the calls
-  pub again-all : (readFor (packetOf (readFor p .content) (four (streamFor p 0) (streamFor p 1) (streamFor p 2) (streamFor p 3))) ≡ readFor p)
-      × (streamFor (packetOf (readFor p .content) (four (streamFor p 0) (streamFor p 1) (streamFor p 2) (streamFor p 3))) 0 ≡ streamFor p 0)
-      × (streamFor (packetOf (readFor p .content) (four (streamFor p 0) (streamFor p 1) (streamFor p 2) (streamFor p 3))) 1 ≡ streamFor p 1)
-      × (streamFor (packetOf (readFor p .content) (four (streamFor p 0) (streamFor p 1) (streamFor p 2) (streamFor p 3))) 2 ≡ streamFor p 2)
-      × (streamFor (packetOf (readFor p .content) (four (streamFor p 0) (streamFor p 1) (streamFor p 2) (streamFor p 3))) 3 ≡ streamFor p 3)
-  again-all =
-      let c : readFor p .content ≡ recordOf (cutOf p .items) = ap (λ (a : Answer). a .content) read-is in
-      let s = stream-back (recordOf (cutOf p .items)) (streamsIn (cutOf p .items)) typed fits-read in
-      let q = streams-are in
-      let at : (k : ℕ) → streamFor (packetOf (readFor p .content) (four (streamFor p 0) (streamFor p 1) (streamFor p 2) (streamFor p 3))) k
-      ≡ streamFor (packetOf (recordOf (cutOf p .items)) (streamsIn (cutOf p .items))) k = λ k. ap₂ (λ (x : Record) (y : Streams). streamFor (packetOf x y) k) c q in (
-        ap (λ (y : Streams). readFor (packetOf (readFor p .content) y)) q ∙ again,
-        at 0 ∙ s .0 ∙ sym (ap (λ (x : Streams). x .s0) q),
-        at 1 ∙ s .1 ∙ sym (ap (λ (x : Streams). x .s1) q),
-        at 2 ∙ s .2 ∙ sym (ap (λ (x : Streams). x .s2) q),
-        at 3 ∙ s .3 ∙ sym (ap (λ (x : Streams). x .s3) q),
-      )
+  -- B3: the record, and the streams
+  pub again : readFor (packetOf (readFor p .content) (streamsFor p)) ≡ readFor p
+  again =
+      ap₂ (λ (a : Answer) (ss : Streams). readFor (packetOf (a .content) ss)) read-is streams-are
+      ∙ read-back (recordOf (cutOf p .items)) (streamsIn (cutOf p .items)) typed fits-read
+      ∙ sym read-is
+
+  pub streams-again : streamsFor (packetOf (readFor p .content) (streamsFor p)) ≡ streamsFor p
+  streams-again =
+      ap₂ (λ (a : Answer) (ss : Streams). streamsFor (packetOf (a .content) ss)) read-is streams-are
+      ∙ streams-back (recordOf (cutOf p .items)) (streamsIn (cutOf p .items)) typed fits-read
+      ∙ sym streams-are

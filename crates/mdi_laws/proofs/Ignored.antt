@@ -20,18 +20,47 @@ use Rattle.description.specs.declared.Lengths.{Lengths}
 use Rattle.fac.specs.Channel as fast
 use Rattle.fac.specs.Channel.{facOf}
 use Rattle.sdc.specs.Block as block
-use Rattle.items.specs.Items.{Item, Found, none, some, cutOf, find, twice, isThere, placeOf, valueOf, sameName}
+use Rattle.items.specs.Items.{Item, Found, none, some, cutOf, find, valueOf, sameName, among, Once}
+use Rattle.items.proofs.Names.{same-list, list-same}
 use Rattle.items.proofs.Once.{of-once}
 use Rattle.mdi_spots.specs.Names.{ptr, dlfc, fac, sdc, sdci, robm, str0, str1, str2, str3, tist}
-use Rattle.mdi_spots.specs.Table.{absent, wrong, ill, exactly, wholeBytes, sdcBits, sdciBits, missing, badLength}
+use Rattle.mdi_spots.specs.Table.{Row, table, anyRow, namesOf, nameOf, absent, wrong, ill, missing, badLength}
 use Rattle.mdi_check.specs.Conditions.{protocol, knownMode, onTime, served, mscMode, agrees, badValue, badFac, badSdc, unserved, badDescription, badStreams}
 use Rattle.mdi_check.specs.Conditions as conditions
 use Rattle.mdi_check.specs.Refusals.{itemTests, testsFor}
 use Rattle.mdi_check.proofs.Ways.{items-place}
 use Rattle.mdi.specs.Reading.{timeOf, recordOf, readFor, streamOf, streamFor}
-use Rattle.mdi_laws.specs.Ignored.{Like, Same, ButMinor, ButReserved, Alike, Plain}
+use Rattle.mdi_laws.specs.Ignored.{ButMinor, ButReserved}
+use Rattle.mdi_laws.specs.NoMatter.{known}
+
+-- ---- alike
+
+-- both are there or neither is; there, they have the same bits, and values that are alike
+abbrev pub Like : (List ℕ → List ℕ → Type 0) → Found → Found → Type 0
+Like R none none = Unit {0}
+Like R none (some j) = ⊥
+Like R (some i) none = ⊥
+Like R (some i) (some j) = (i .bits ≡ j .bits) × R (i .value) (j .value)
+
+abbrev pub Same : List ℕ → List ℕ → Type 0
+Same v w = v ≡ w
+
+-- the items of two packets that differ in nothing else than does not matter, row by row
+pub record Alike (is js : List Item) : Type 0 where
+  pub header : Like ButMinor (find ptr is) (find ptr js)
+  pub description : Like ButReserved (find sdci is) (find sdci js)
+  pub others : (n : List ℕ) → among n known ≡ true → sameName n ptr ≡ false → sameName n sdci ≡ false → Like Same (find n is) (find n js)
+
+-- a packet that is not refused with 1, 2 or 3
+pub record Plain (p : List ℕ) : Type 0 where
+  pub short : length p ≤ longest
+  pub whole : length p - cutOf p .stop < 8
+  pub once : Once (cutOf p .items)
 
 -- ---- one item
+
+abbrev Any : List ℕ → List ℕ → Type 0
+Any v w = Unit {0}
 
 module _ (R : List ℕ → List ℕ → Type 0) where
   absent-same : (f g : Found) → Like R f g → absent f ≡ absent g
@@ -47,6 +76,13 @@ module _ (R : List ℕ → List ℕ → Type 0) where
   wrong-same ok none (some j) l = absurd l
   wrong-same ok (some i) none l = absurd l
   wrong-same ok (some i) (some j) l = ap (λ (b : ℕ). not (ok b)) (l .0)
+
+  -- whatever the values
+  loosely : (f g : Found) → Like R f g → Like Any f g
+  loosely none none l = tt
+  loosely none (some j) l = absurd l
+  loosely (some i) none l = absurd l
+  loosely (some i) (some j) l = (l .0, tt)
 
   ill-same : (a b : List ℕ → Bool) → ((v w : List ℕ) → R v w → a v ≡ b w) → (f g : Found) → Like R f g → ill a f ≡ ill b g
   unfolding ill
@@ -140,58 +176,66 @@ described-found (some i) (some j) l = described-same (i .value) (j .value) (l .1
 
 -- ---- the conditions, the record and the streams
 
+or-r : (b : Bool) → (b || true) ≡ true
+or-r true = refl
+or-r false = refl
+
+-- a test of each row
+any-same : (f g : Row → Bool) (rs : List Row) → ((r : Row) → among (r .name) (namesOf rs) ≡ true → f r ≡ g r) → anyRow f rs ≡ anyRow g rs
+unfolding among
+any-same f g [] h = refl
+any-same f g (r ∷ rs) h =
+    ap₂ (λ (a b : Bool). a || b) (h r (rw (list-same (r .name) (r .name) refl) refl))
+    (any-same f g rs (λ x e. h x (ap (λ (b : Bool). sameName (x .name) (r .name) || b) e ∙ or-r (sameName (x .name) (r .name)))))
+
 module _ (is js : List Item) (l : Alike is js) where
+  -- every row, whatever its value
+  row-like : (n : List ℕ) → among n known ≡ true → Like Any (find n is) (find n js)
+  row-like n k = go (sameName n ptr) (sameName n sdci) refl refl
+    where
+      go : (a b : Bool) → sameName n ptr ≡ a → sameName n sdci ≡ b → Like Any (find n is) (find n js)
+      go true b p d = rw (same-list n ptr p) (loosely ButMinor (find ptr is) (find ptr js) (l .header))
+      go false true p d = rw (same-list n sdci d) (loosely ButReserved (find sdci is) (find sdci js) (l .description))
+      go false false p d = loosely Same (find n is) (find n js) (l .others n k p d)
+
+  value-of : (n : List ℕ) → among n known ≡ true → sameName n ptr ≡ false → sameName n sdci ≡ false → valueOf (find n is) ≡ valueOf (find n js)
+  value-of n k p d = value-same (find n is) (find n js) (l .others n k p d)
+
+  good-of : (a : List ℕ → Bool) (n : List ℕ) → among n known ≡ true → sameName n ptr ≡ false → sameName n sdci ≡ false → ill a (find n is) ≡ ill a (find n js)
+  good-of a n k p d = plain a (find n is) (find n js) (l .others n k p d)
+
   f-fac : valueOf (find fac is) ≡ valueOf (find fac js)
-  f-fac = value-same (find fac is) (find fac js) (l .channel)
+  unfolding among sameName
+  f-fac = value-of fac refl refl refl
 
   missing-same : missing is ≡ missing js
   unfolding missing
   missing-same =
-      rw (
-        absent-same ButMinor (find ptr is) (find ptr js) (l .header),
-        absent-same Same (find dlfc is) (find dlfc js) (l .count),
-        absent-same Same (find fac is) (find fac js) (l .channel),
-        absent-same ButReserved (find sdci is) (find sdci js) (l .description),
-        absent-same Same (find robm is) (find robm js) (l .robustness),
-      ) refl
+      any-same (λ r. r .required && absent (find (r .name) is)) (λ r. r .required && absent (find (r .name) js)) table
+      (λ r e. ap (λ (b : Bool). r .required && b) (absent-same Any (find (r .name) is) (find (r .name) js) (row-like (r .name) e)))
 
   length-same : badLength is ≡ badLength js
   unfolding badLength
   length-same =
-      rw (
-        wrong-same ButMinor (exactly 64) (find ptr is) (find ptr js) (l .header),
-        wrong-same Same (exactly 32) (find dlfc is) (find dlfc js) (l .count),
-        wrong-same Same (exactly 72) (find fac is) (find fac js) (l .channel),
-        wrong-same Same sdcBits (find sdc is) (find sdc js) (l .block),
-        wrong-same ButReserved sdciBits (find sdci is) (find sdci js) (l .description),
-        wrong-same Same (exactly 8) (find robm is) (find robm js) (l .robustness),
-        wrong-same Same wholeBytes (find str0 is) (find str0 js) (l .stream0),
-        wrong-same Same wholeBytes (find str1 is) (find str1 js) (l .stream1),
-        wrong-same Same wholeBytes (find str2 is) (find str2 js) (l .stream2),
-        wrong-same Same wholeBytes (find str3 is) (find str3 js) (l .stream3),
-        wrong-same Same (exactly 64) (find tist is) (find tist js) (l .time),
-      ) refl
+      any-same (λ r. wrong (r .allowed) (find (r .name) is)) (λ r. wrong (r .allowed) (find (r .name) js)) table
+      (λ r e. wrong-same Any (r .allowed) (find (r .name) is) (find (r .name) js) (row-like (r .name) e))
 
   known-same : badValue is ≡ badValue js
-  unfolding badValue
+  unfolding badValue among sameName
   known-same =
-      rw (
-        ill-same ButMinor protocol protocol protocol-same (find ptr is) (find ptr js) (l .header),
-        plain knownMode (find robm is) (find robm js) (l .robustness),
-        plain onTime (find tist is) (find tist js) (l .time),
-      ) refl
+      rw (ill-same ButMinor protocol protocol protocol-same (find ptr is) (find ptr js) (l .header), good-of knownMode robm refl refl refl, good-of onTime tist refl refl refl) refl
 
   fac-same : badFac is ≡ badFac js
-  unfolding badFac
-  fac-same = plain fast.sealed (find fac is) (find fac js) (l .channel)
+  unfolding badFac among sameName
+  fac-same = good-of fast.sealed fac refl refl refl
 
   sdc-same : badSdc is ≡ badSdc js
-  unfolding badSdc
-  sdc-same = plain block.sealed (find sdc is) (find sdc js) (l .block)
+  unfolding badSdc among sameName
+  sdc-same = good-of block.sealed sdc refl refl refl
 
   served-same : unserved is ≡ unserved js
-  unfolding unserved
-  served-same = plain served (find fac is) (find fac js) (l .channel)
+  unfolding unserved among sameName
+  served-same = good-of served fac refl refl refl
 
   mode-same : mscMode is ≡ mscMode js
   unfolding mscMode
@@ -204,15 +248,9 @@ module _ (is js : List Item) (l : Alike is js) where
       (λ v w r. ap₂ (λ (m : ℕ) (d : Description). not (illFormed m d)) mode-same (described-same v w r)) (find sdci is) (find sdci js) (l .description)
 
   agrees-same : (v w : List ℕ) → ButReserved v w → agrees is (describedBy v) ≡ agrees js (describedBy w)
-  unfolding agrees
+  unfolding agrees among sameName
   agrees-same v w r =
-      rw (
-        value-same (find str0 is) (find str0 js) (l .stream0),
-        value-same (find str1 is) (find str1 js) (l .stream1),
-        value-same (find str2 is) (find str2 js) (l .stream2),
-        value-same (find str3 is) (find str3 js) (l .stream3),
-        described-same v w r,
-      ) refl
+      rw (value-of str0 refl refl refl, value-of str1 refl refl refl, value-of str2 refl refl refl, value-of str3 refl refl refl, described-same v w r) refl
 
   streams-same : badStreams is ≡ badStreams js
   unfolding badStreams
@@ -223,23 +261,23 @@ module _ (is js : List Item) (l : Alike is js) where
   tests-same = rw (missing-same, length-same, known-same, fac-same, sdc-same, served-same, description-same, streams-same) refl
 
   pub content-same : recordOf is ≡ recordOf js
-  unfolding recordOf
+  unfolding recordOf among sameName
   content-same =
       rw (
-        value-same (find dlfc is) (find dlfc js) (l .count),
+        value-of dlfc refl refl refl,
         f-fac,
-        value-same (find sdc is) (find sdc js) (l .block),
+        value-of sdc refl refl refl,
         described-found (find sdci is) (find sdci js) (l .description),
-        value-same (find robm is) (find robm js) (l .robustness),
-        time-same (find tist is) (find tist js) (l .time),
+        value-of robm refl refl refl,
+        time-same (find tist is) (find tist js) (l .others tist refl refl refl),
       ) refl
 
   pub stream-same : (k : ℕ) → streamOf is k ≡ streamOf js k
-  unfolding streamOf
-  stream-same zero = value-same (find str0 is) (find str0 js) (l .stream0)
-  stream-same (suc zero) = value-same (find str1 is) (find str1 js) (l .stream1)
-  stream-same (suc (suc zero)) = value-same (find str2 is) (find str2 js) (l .stream2)
-  stream-same (suc (suc (suc zero))) = value-same (find str3 is) (find str3 js) (l .stream3)
+  unfolding streamOf among sameName
+  stream-same zero = value-of (nameOf 6) refl refl refl
+  stream-same (suc zero) = value-of (nameOf 7) refl refl refl
+  stream-same (suc (suc zero)) = value-of (nameOf 8) refl refl refl
+  stream-same (suc (suc (suc zero))) = value-of (nameOf 9) refl refl refl
   stream-same (suc (suc (suc (suc k)))) = rw (lt-ltb 3 (suc (suc (suc (suc k)))) (omega arith)) refl
 
 -- ---- THE THEOREM

@@ -4,6 +4,7 @@ pub mod Accepts
 pub mod Ignored
 pub mod Stood
 pub mod Values
+pub mod Rows
 pub mod Back
 pub mod Again
 pub mod NoMatter

@@ -27,7 +27,7 @@ use Rattle.items.proofs.Names.{same-list, list-same}
 use Rattle.mdi_spots.specs.Table.{exactly, wholeBytes, sdcBits, sdciBits}
 use Rattle.mdi_spots.specs.Names.{letters}
 use Rattle.mdi_check.specs.Conditions.{protocol, knownMode, onTime, served}
-use Rattle.mdi_laws.specs.WellFormed.{Exactly, WholeBytes, SdcBits, SdciBits, Anything, Protocol, Served, Channel, Block, BlockOrNone, Robustness, Milliseconds}
+use Rattle.mdi_laws.specs.WellFormed.{Exactly, WholeBytes, SdcBits, SdciBits, Anything, Protocol, Served, GoodFac, Block, BlockOrNone, Robustness, Milliseconds}
 use Rattle.mdi_laws.proofs.Items.{Means, always, not-no}
 
 -- ---- lengths
@@ -119,14 +119,14 @@ not-yes : (b : Bool) → not b ≡ true → b ≡ false
 not-yes true e = sym e
 not-yes false e = refl
 
-channel-is : (v : List ℕ) → (fast.sealed v && served v) ≡ true → Channel v
+channel-is : (v : List ℕ) → (fast.sealed v && served v) ≡ true → GoodFac v
 unfolding fast.sealed served
 channel-is v e =
     let h = both (leb 9 (length v) && eqb (crcOf 8 0x1d (take 8 v)) (getD v 8 0)) (not (notServed (facOf v))) e in
     let g = both (leb 9 (length v)) (eqb (crcOf 8 0x1d (take 8 v)) (getD v 8 0)) (h .0) in
     record { check = eqb-true (crcOf 8 0x1d (take 8 v)) (getD v 8 0) (g .1); served = served-is (facOf v) (not-yes (notServed (facOf v)) (h .1)) }
 
-is-channel : (v : List ℕ) → length v ≡ 9 → Channel v → (fast.sealed v && served v) ≡ true
+is-channel : (v : List ℕ) → length v ≡ 9 → GoodFac v → (fast.sealed v && served v) ≡ true
 unfolding fast.sealed served
 is-channel v l c =
     let n : 9 ≤ length v = omega arith in
@@ -184,7 +184,7 @@ of-header = record { size = λ b. eqb-true b 64; size-back = λ b. eq-eqb b 64; 
 pub of-count : Means (exactly 32) (Exactly 32) always Anything
 of-count = record { size = λ b. eqb-true b 32; size-back = λ b. eq-eqb b 32; value = λ b v l s e. tt; value-back = λ b v l s e. refl }
 
-pub of-channel : Means (exactly 72) (Exactly 72) (λ v. fast.sealed v && served v) Channel
+pub of-channel : Means (exactly 72) (Exactly 72) (λ v. fast.sealed v && served v) GoodFac
 of-channel = record { size = λ b. eqb-true b 72; size-back = λ b. eq-eqb b 72; value = λ b v l s. channel-is v; value-back = λ b v l s. is-channel v (omega arith) }
 
 pub of-block : Means sdcBits SdcBits block.sealed BlockOrNone

@@ -14,10 +14,10 @@ use Rattle.items.proofs.Exact.{exact}
 use Rattle.items.proofs.Joins.{find-placed, joined-length}
 use Rattle.items.proofs.Names.{same-list}
 use Rattle.items.proofs.Order.{all-in, all-out, once-in, once-out, once-others, once-at, total-in, all-order, once-order, total-order, find-skip, find-order}
-use Rattle.mdi_spots.specs.Names.{ptr, dlfc, fac, sdc, sdci, robm, str0, str1, str2, str3, tist}
-use Rattle.mdi_laws.specs.Ignored.{Like, Same, ButMinor, ButReserved, Alike, Plain}
+use Rattle.mdi_spots.specs.Names.{ptr, sdci}
+use Rattle.mdi_laws.specs.Ignored.{ButMinor, ButReserved}
 use Rattle.mdi_laws.specs.NoMatter.{known, Packs, ReadAlike, withValue, NoMatter}
-use Rattle.mdi_laws.proofs.Ignored.{ignored, ignored-stream}
+use Rattle.mdi_laws.proofs.Ignored.{Like, Same, Alike, Plain, ignored, ignored-stream}
 
 -- ---- what is found in both
 
@@ -75,38 +75,21 @@ reserved-self v = record { size = refl; levels = refl; rest = refl }
 
 -- ---- lists that differ in nothing that matters
 
-record Matching (is js : List Item) : Type 0 where
-  header : Like ButMinor (find ptr is) (find ptr js)
-  description : Like ButReserved (find sdci is) (find sdci js)
-  others : (n : List ℕ) → among n known ≡ true → sameName n ptr ≡ false → sameName n sdci ≡ false → find n is ≡ find n js
-
--- all that is known of `Alike` here
-alike : (is js : List Item) → Matching is js → Alike (placed 0 is) (placed 0 js)
-unfolding among sameName
-alike is js m =
-    let o : (n : List ℕ) → among n known ≡ true → sameName n ptr ≡ false → sameName n sdci ≡ false → Like Same (find n (placed 0 is)) (find n (placed 0 js))
-    = λ n k p d. like-placed Same n is js (like-same Same same-self (find n is) (find n js) (m .others n k p d)) in
+alike-placed : (is js : List Item) → Alike is js → Alike (placed 0 is) (placed 0 js)
+alike-placed is js m =
     record {
       header = like-placed ButMinor ptr is js (m .header);
-      count = o dlfc refl refl refl;
-      channel = o fac refl refl refl;
-      block = o sdc refl refl refl;
       description = like-placed ButReserved sdci is js (m .description);
-      robustness = o robm refl refl refl;
-      stream0 = o str0 refl refl refl;
-      stream1 = o str1 refl refl refl;
-      stream2 = o str2 refl refl refl;
-      stream3 = o str3 refl refl refl;
-      time = o tist refl refl refl;
+      others = λ n k p d. like-placed Same n is js (m .others n k p d);
     }
 
-matching-same : (is js : List Item) → ((n : List ℕ) → among n known ≡ true → find n is ≡ find n js) → Matching is js
+alike-same : (is js : List Item) → ((n : List ℕ) → among n known ≡ true → find n is ≡ find n js) → Alike is js
 unfolding among sameName
-matching-same is js h =
+alike-same is js h =
     record {
       header = like-same ButMinor minor-self (find ptr is) (find ptr js) (h ptr refl);
       description = like-same ButReserved reserved-self (find sdci is) (find sdci js) (h sdci refl);
-      others = λ n k p d. h n k;
+      others = λ n k p d. like-same Same same-self (find n is) (find n js) (h n k);
     }
 
 -- ---- their packets
@@ -125,9 +108,9 @@ module _ (is : List Item) (r : List ℕ) (p : Packs is r) where
       let f = p .few in
       record { short = p .short; whole = omega arith; once = subst Once (sym items-are) (once-at is 0 (p .once)) }
 
-read-alike : (is js : List Item) (r s : List ℕ) → Packs is r → Packs js s → Matching is js → ReadAlike (joined is ++ r) (joined js ++ s)
+read-alike : (is js : List Item) (r s : List ℕ) → Packs is r → Packs js s → Alike is js → ReadAlike (joined is ++ r) (joined js ++ s)
 read-alike is js r s p q m =
-    let l : Alike (cutOf (joined is ++ r) .items) (cutOf (joined js ++ s) .items) = rw (items-are is r p, items-are js s q) (alike is js m) in
+    let l : Alike (cutOf (joined is ++ r) .items) (cutOf (joined js ++ s) .items) = rw (items-are is r p, items-are js s q) (alike-placed is js m) in
     record {
       content = ignored (joined is ++ r) (joined js ++ s) (plain is r p) (plain js s q) l;
       stream = ignored-stream (joined is ++ r) (joined js ++ s) (plain is r p) (plain js s q) l;
@@ -164,7 +147,7 @@ module _ (a b : List Item) (i : Item) (r : List ℕ) (p : Packs (a ++ (i ∷ b))
   unknown : among (i .name) known ≡ false → ReadAlike (joined (a ++ (i ∷ b)) ++ r) (joined (a ++ b) ++ r)
   unknown u =
       read-alike (a ++ (i ∷ b)) (a ++ b) r r p without
-      (matching-same (a ++ (i ∷ b)) (a ++ b) (λ n k. find-skip n a b i (not-named n (i .name) k u)))
+      (alike-same (a ++ (i ∷ b)) (a ++ b) (λ n k. find-skip n a b i (not-named n (i .name) k u)))
 
   -- ---- another value of the same length
 
@@ -188,7 +171,7 @@ module _ (a b : List Item) (i : Item) (r : List ℕ) (p : Packs (a ++ (i ∷ b))
         (record {
           header = like-changed ButMinor minor-self ptr a b i v h;
           description = like-same ButReserved reserved-self (find sdci (a ++ (i ∷ b))) (find sdci (a ++ (withValue i v ∷ b))) (o sdci refl);
-          others = λ n k f d. o n f;
+          others = λ n k f d. like-same Same same-self (find n (a ++ (i ∷ b))) (find n (a ++ (withValue i v ∷ b))) (o n f);
         })
 
     reserved : i .name ≡ sdci → ButReserved (i .value) v → ReadAlike (joined (a ++ (i ∷ b)) ++ r) (joined (a ++ (withValue i v ∷ b)) ++ r)
@@ -199,7 +182,7 @@ module _ (a b : List Item) (i : Item) (r : List ℕ) (p : Packs (a ++ (i ∷ b))
         (record {
           header = like-same ButMinor minor-self (find ptr (a ++ (i ∷ b))) (find ptr (a ++ (withValue i v ∷ b))) (o ptr refl);
           description = like-changed ButReserved reserved-self sdci a b i v h;
-          others = λ n k f d. o n d;
+          others = λ n k f d. like-same Same same-self (find n (a ++ (i ∷ b))) (find n (a ++ (withValue i v ∷ b))) (o n d);
         })
 
 -- ---- the order, and padding
@@ -208,10 +191,10 @@ order : (is js : List Item) (r : List ℕ) → Reordered is js → Packs is r �
 order is js r o p =
     let t = total-order is js o in
     read-alike is js r r p (packs-as is js r r p (all-order Sound is js o (p .sound)) (once-order is js o (p .once)) (omega arith) (omega arith))
-    (matching-same is js (λ n k. find-order n is js o (p .once)))
+    (alike-same is js (λ n k. find-order n is js o (p .once)))
 
 padding : (is : List Item) (r s : List ℕ) → Packs is r → Packs is s → ReadAlike (joined is ++ r) (joined is ++ s)
-padding is r s p q = read-alike is is r s p q (matching-same is is (λ n k. refl))
+padding is r s p q = read-alike is is r s p q (alike-same is is (λ n k. refl))
 
 -- an empty padding, where some padding is
 pub bare-packs : (is : List Item) (r : List ℕ) → Packs is r → Packs is []

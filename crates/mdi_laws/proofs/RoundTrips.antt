@@ -22,17 +22,9 @@ use Rattle.mdi_write.proofs.Numbers.{fits-of}
 use Rattle.mdi_laws.specs.NoMatter.{ReadAlike}
 use Rattle.mdi_laws.specs.Typed.{Typed}
 use Rattle.mdi_laws.specs.RoundTrips.{leftIn, streamsFor, Gives, WrittenIsRead, ReadIsWritten}
-use Rattle.mdi_laws.proofs.Back.{read-write, stream-write}
-use Rattle.mdi_laws.proofs.Again.{streamsIn, fits-read, again-all}
-
--- ---- B2
-
-pub written-is-read : WrittenIsRead
-written-is-read r ss out t e =
-    let s = stream-write r ss out t e in
-    record { content = read-write r ss out t e; streams = rw (s .0, s .1, s .2, s .3) refl }
-
--- ---- B3
+use Rattle.mdi_laws.proofs.Back.{read-back, streams-back}
+use Rattle.mdi_laws.proofs.Again as reread
+use Rattle.mdi_laws.proofs.Again.{read-is, streams-are, fits-read}
 
 -- what fits and has room is written
 writes : (r : Record) (ss : Streams) (out : List ℕ) → Fits r ss → length (packetOf r ss) ≤ length out → writeFor r ss (length out) .number ≡ 0
@@ -50,6 +42,14 @@ left-is : (r : Record) (ss : Streams) (out : List ℕ) → writeFor r ss (length
 unfolding writeFor outFor
 left-is r ss out e = rw e (front out (packetOf r ss) (length (packetOf r ss)) refl)
 
+-- ---- B2
+pub written-is-read : WrittenIsRead
+written-is-read r ss out t e =
+    let f = writes-only r ss out e .0 in
+    let l = left-is r ss out e in
+    record { content = ap readFor l ∙ read-back r ss t f; streams = ap (λ (p : List ℕ). streamsFor p) l ∙ streams-back r ss t f }
+
+-- ---- B3
 either : (t : Bool) → pick {A = List ℕ} t [] [] ≡ []
 either true = refl
 either false = refl
@@ -75,16 +75,8 @@ module _ (p : List ℕ) (b : Bytes p) (e : readFor p .number ≡ 0) where
   unfolding readFor
   number = e
 
-  content-is : readFor p .content ≡ recordOf (cutOf p .items)
-  unfolding readFor
-  content-is = rw number refl
-
-  streams-are : streamsFor p ≡ streamsIn (cutOf p .items)
-  unfolding streamFor streamOf
-  streams-are = rw number refl
-
   fits : Fits (readFor p .content) (streamsFor p)
-  fits = rw (content-is, streams-are) (fits-read p b number)
+  fits = rw (read-is p b number, streams-are p b number) (fits-read p b number)
 
   module _ (out : List ℕ) (room : length (packetOf (readFor p .content) (streamsFor p)) ≤ length out) where
     left : leftIn (readFor p .content) (streamsFor p) out ≡ packetOf (readFor p .content) (streamsFor p)
@@ -92,11 +84,9 @@ module _ (p : List ℕ) (b : Bytes p) (e : readFor p .number ≡ 0) where
 
     again : ReadAlike (leftIn (readFor p .content) (streamsFor p) out) p
     again =
-        let a = again-all p b number in
-        let s : streamsFor (packetOf (readFor p .content) (streamsFor p)) ≡ streamsFor p = rw (a .1, a .2, a .3, a .4) refl in
         record {
-          content = ap readFor left ∙ a .0;
-          stream = λ k. ap (λ (q : List ℕ). streamFor q k) left ∙ streams-all (packetOf (readFor p .content) (streamsFor p)) p s k;
+          content = ap readFor left ∙ reread.again p b number;
+          stream = λ k. ap (λ (q : List ℕ). streamFor q k) left ∙ streams-all (packetOf (readFor p .content) (streamsFor p)) p (reread.streams-again p b number) k;
         }
 
 pub read-is-written : ReadIsWritten

@@ -3,19 +3,20 @@
 use Prim.Native.Nat.{ℕ, _≤_, _<_}
 use mathlib.Core.Bool.{false}
 use mathlib.Core.Path.{_≡_}
-use mathlib.Core.List.{List, [], _∷_, _++_}
+use mathlib.Core.List.{List, _∷_, _++_}
 use lib.ListN.{length}
 use Rattle.laws.specs.Limits.{longest}
 use Rattle.items.specs.Items.{Item, among, All, Once}
 use Rattle.items.specs.Joined.{joined, Sound}
 use Rattle.items.specs.Order.{Reordered}
-use Rattle.mdi_spots.specs.Names.{ptr, dlfc, fac, sdc, sdci, robm, str0, str1, str2, str3, tist}
+use Rattle.mdi_spots.specs.Names.{ptr, sdci}
+use Rattle.mdi_spots.specs.Table.{table, namesOf}
 use Rattle.mdi.specs.Reading.{readFor, streamFor}
 use Rattle.mdi_laws.specs.Ignored.{ButMinor, ButReserved}
 
 -- the names of 01's table
 abbrev pub known : List (List ℕ)
-known = ptr ∷ dlfc ∷ fac ∷ sdc ∷ sdci ∷ robm ∷ str0 ∷ str1 ∷ str2 ∷ str3 ∷ tist ∷ []
+known = namesOf table
 
 -- items and padding whose packet is not refused with 1, 2 or 3
 pub record Packs (is : List Item) (padding : List ℕ) : Type 0 where

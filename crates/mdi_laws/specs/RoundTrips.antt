@@ -8,13 +8,14 @@ use Rattle.laws.specs.Big.{Bytes}
 use Rattle.record.specs.declared.Record.{Record}
 use Rattle.mdi.specs.Reading.{readFor, streamFor}
 use Rattle.mdi_write.specs.Packet.{Streams, four, packetOf}
-use Rattle.mdi_write.specs.Answers.{writeFor, outFor, Fits}
+use Rattle.mdi_write.specs.Answers as writer
+use Rattle.mdi_write.specs.Answers.{writeFor, Fits}
 use Rattle.mdi_laws.specs.NoMatter.{ReadAlike}
 use Rattle.mdi_laws.specs.Typed.{Typed}
 
 -- what `write` leaves at the front of an output, as many bytes as it answers
 abbrev pub leftIn : Record → Streams → List ℕ → List ℕ
-leftIn r ss out = take (writeFor r ss (length out) .length) (outFor r ss out)
+leftIn r ss out = take (writeFor r ss (length out) .length) (writer.outFor r ss out)
 
 -- the four streams of a packet, as `stream` gives them
 abbrev pub streamsFor : List ℕ → Streams

@@ -14,7 +14,8 @@ use Rattle.description.specs.declared.Description.{Description}
 use Rattle.fac.specs.Channel.{facOf}
 use Rattle.fac.specs.declared.Fac.{Fac}
 use Rattle.items.specs.Items.{Item, some, cutOf, find, valueOf, Once}
-use Rattle.mdi_spots.specs.Names.{letters, ptr, dlfc, fac, sdc, sdci, robm, str0, str1, str2, str3, tist}
+use Rattle.mdi_spots.specs.Names.{letters, ptr, dlfc, fac, sdc, sdci, robm, tist}
+use Rattle.mdi_spots.specs.Table.{nameOf}
 use Rattle.mdi_check.specs.Conditions.{mscMode}
 use Rattle.mdi.specs.Reading.{streamOf}
 
@@ -64,7 +65,7 @@ pub record Served (f : Fac) : Type 0 where
   pub services : (f .services ≡ 11 → ⊥) × (f .services ≡ 14 → ⊥)
 
 -- the ninth byte is the CRC-8 of the eight before it, and what they say is served
-pub record Channel (v : List ℕ) : Type 0 where
+pub record GoodFac (v : List ℕ) : Type 0 where
   pub check : crcOf 8 0x1d (take 8 v) ≡ getD v 8 0
   pub served : Served (facOf v)
 
@@ -98,15 +99,13 @@ pub record WellFormed (p : List ℕ) : Type 0 where
   pub once : Once (cutOf p .items)
   pub header : Required ptr (Exactly 64) Protocol (cutOf p .items)
   pub count : Required dlfc (Exactly 32) Anything (cutOf p .items)
-  pub channel : Required fac (Exactly 72) Channel (cutOf p .items)
+  pub channel : Required fac (Exactly 72) GoodFac (cutOf p .items)
   pub block : Optional sdc SdcBits BlockOrNone (cutOf p .items)
   -- the description is well formed under the MSC mode that the FAC gives
   pub description : Required sdci SdciBits (λ v. described.WellFormed (mscMode (cutOf p .items)) (describedBy v)) (cutOf p .items)
   pub robustness : Required robm (Exactly 8) Robustness (cutOf p .items)
-  pub stream0 : Optional str0 WholeBytes Anything (cutOf p .items)
-  pub stream1 : Optional str1 WholeBytes Anything (cutOf p .items)
-  pub stream2 : Optional str2 WholeBytes Anything (cutOf p .items)
-  pub stream3 : Optional str3 WholeBytes Anything (cutOf p .items)
+  -- str0 to str3, the rows of the table from 6 on
+  pub streams : (k : ℕ) → k < 4 → Optional (nameOf (6 + k)) WholeBytes Anything (cutOf p .items)
   pub time : Optional tist (Exactly 64) Milliseconds (cutOf p .items)
   -- a stream of the description has as many bytes as its two parts, any other none
   pub filled : (k : ℕ) → k < descriptionIn (cutOf p .items) .count → length (streamOf (cutOf p .items) k) ≡ saidOf (descriptionIn (cutOf p .items)) k

@@ -9,8 +9,8 @@ use Rattle.laws.specs.Big.{bigOf, numberAt, Bytes}
 use Rattle.laws.proofs.Flags.{or-none}
 use Rattle.items.specs.Items.{cutOf}
 use Rattle.items.specs.declared.Spot.{Spot}
-use Rattle.tag_spots.specs.Rows.{keyAt, keysOf, startsFor, bitsFor}
-use Rattle.tag_spots.proofs.Names.{joined, zeros, starts-named, bits-named}
+use Rattle.tag_spots.specs.Rows.{inRow, keyAt, keysOf, startsFor, bitsFor}
+use Rattle.tag_spots.proofs.Names.{zeros, starts-named, bits-named}
 use Rattle.mdi_spots.specs.Table.{exactly, wholeBytes, sdcBits, sdciBits, table, namesOf}
 use Rattle.mdi_spots.specs.Spotted.{passedOf, spotsOf, spotIn, away, wrongAt, missingAt, badLengthAt}
 use Rattle.mdi_spots.specs.declared.Spots.{Spots}
@@ -18,14 +18,14 @@ use Rattle.mdi_spots.specs.declared.Passed.{Passed}
 
 -- ---- `find_all`
 
-pub found : (S slots starts bits : List ℕ) (stop : ℕ) → Bytes S → keysOf (joined (namesOf table)) slots 11 ≡ map bigOf (namesOf table)
-    → (stop ≡ cutOf S .stop) × (stop ≤ length S) × (starts ≡ startsFor (joined (namesOf table)) slots (cutOf S .items) (zeros 11) (zeros 11))
-    × (bits ≡ bitsFor (joined (namesOf table)) slots (cutOf S .items) (zeros 11) (zeros 11))
+pub found : (S slots starts bits : List ℕ) (stop : ℕ) → Bytes S → keysOf (inRow (namesOf table)) slots 11 ≡ map bigOf (namesOf table)
+    → (stop ≡ cutOf S .stop) × (stop ≤ length S) × (starts ≡ startsFor (inRow (namesOf table)) slots (cutOf S .items) (zeros 11) (zeros 11))
+    × (bits ≡ bitsFor (inRow (namesOf table)) slots (cutOf S .items) (zeros 11) (zeros 11))
     → (_≡_ {A = Passed} (record { spots = record { start = starts; bits = bits }; stop = stop }) (passedOf (cutOf S))) × (stop ≤ length S)
 unfolding passedOf spotsOf
 found S slots starts bits stop sb keys h =
-    let a = h .2 ∙ starts-named S sb (joined (namesOf table)) slots (namesOf table) keys refl in
-    let b = h .3 ∙ bits-named S sb (joined (namesOf table)) slots (namesOf table) keys refl in
+    let a = h .2 ∙ starts-named S sb (inRow (namesOf table)) slots (namesOf table) keys refl in
+    let b = h .3 ∙ bits-named S sb (inRow (namesOf table)) slots (namesOf table) keys refl in
     (rw (a, b, h .0) refl, h .1)
 
 -- ---- `spot`

@@ -8,11 +8,14 @@ ghost use Rattle.items.specs.Items.{cutOf};
 ghost use Rattle.mdi_spots.specs.Table.{exactly, wholeBytes, sdcBits, sdciBits};
 ghost use Rattle.mdi_spots.specs.Spotted.{passedOf, spotIn, away, wrongAt, missingAt, badLengthAt};
 
-// The names in the table's order, four bytes each.
-const NAMES: [u8; 44] = *b"*ptrdlfcfac_sdc_sdcirobmstr0str1str2str3tist";
+// The names in the table's order, four bytes each: looked for by the reader, written by the writer.
+pub const NAMES: [u8; 44] = *b"*ptrdlfcfac_sdc_sdcirobmstr0str1str2str3tist";
 
 // The row in the slot at the remainder of its name's number by 13; 11 where there is none.
 const SLOTS: [u8; 13] = [11, 2, 0, 6, 7, 8, 9, 4, 5, 10, 3, 1, 11];
+
+// The value of `*ptr` as it is written: the protocol's four letters, major and minor revision 0. The reader compares the letters.
+pub const OPENING: [u8; 8] = *b"DMDI\0\0\0\0";
 
 pub const PTR: usize = 0;
 

@@ -22,7 +22,7 @@ use Rattle.record.specs.declared.Time.{Time}
 use Rattle.mdi_write.specs.Packet.{Streams, packetOf}
 use Rattle.description.specs.Bytes.{saidOf}
 use Rattle.mdi_write.specs.Answers.{anyLong, badTime, tooLarge, agreed, writeTests, writeNumber, writeFor, outFor, Fits}
-use Rattle.mdi_write.specs.Rows.{sizeFor, Ready}
+use Rattle.mdi_write.specs.Rows.{sizeFor, Tested}
 use Rattle.mdi_write.proofs.Values.{few}
 use Rattle.mdi_write.proofs.Laying.{packet-length, not-long}
 
@@ -120,8 +120,8 @@ small-of r e =
     let d = or-false (fast.tooLarge (r .fac)) (block.tooLarge (r .sdc)) (c .0) in
     record { fac = d .0; sdc = d .1; description = c .1; robustness = ltb-false _ _ (b .1); time = a .1 }
 
-pub ready-of : (r : Record) (ss : Streams) → Fits r ss → Ready r
-ready-of r ss f = let s = small-of r (f .fields) in record { fits = s .fac; served = f .served; small = s .description; formed = f .formed }
+pub tested-of : (r : Record) (ss : Streams) → Fits r ss → Tested r
+tested-of r ss f = let s = small-of r (f .fields) in record { fits = s .fac; served = f .served; small = s .description; formed = f .formed }
 
 module _ (r : Record) (ss : Streams) (out : List ℕ) (n : ℕ) (e : n ≡ refusedWith (writeTests r ss (length out))) where
   pub write-refused : (n ≡ 0 → ⊥) → (record { number = n; length = 0 } ≡ writeFor r ss (length out)) × (out ≡ outFor r ss out)

@@ -1,5 +1,5 @@
 -- One item written, and the values that are written as items. Assumes nothing.
-use Prim.Native.Nat.{ℕ, suc, _+_, _-_, _*_, _≤_, _<_}
+use Prim.Native.Nat.{ℕ, zero, suc, _+_, _-_, _*_, _≤_, _<_}
 use mathlib.Core.Bool.{Bool, true, false, not, _||_, _&&_}
 use mathlib.Core.Path.{_≡_, refl, sym, ap, ap₂, _∙_}
 use mathlib.Core.List.{List, [], _∷_, _++_, append-assoc, append-nil}
@@ -7,14 +7,14 @@ use native.Mathlib.Nat.{add-zero}
 use native.Mathlib.Omega.{arith}
 use borrow.Author.Tests.{eq-eqb, ne-eqb, le-ltb, ltb-false, not-false, eqb-true}
 use lib.Dec.{eqb, ltb, leb}
-use lib.ListN.{length, take, drop, replicate, length-append, length-replicate, drop-of-length-le}
+use lib.ListN.{length, getD, take, drop, replicate, length-append, length-replicate, drop-of-length-le}
 use lib.Seq.{take-at, length-take-le}
 use Rattle.laws.specs.Big.{bytesOf}
 use Rattle.laws.specs.Pick.{pick}
 use Rattle.laws.specs.Refuse.{refusedWith}
 use Rattle.laws.specs.Written.{written}
 use Rattle.laws.proofs.Big.{bytes-length}
-use Rattle.laws.proofs.Flags.{or-false}
+use Rattle.laws.proofs.Flags.{both, or-false}
 use Rattle.laws.proofs.Written.{written-none, write-next, written-length}
 use Rattle.fields.specs.Numbers.{putAt}
 use Rattle.fields.proofs.Writing.{put-in}
@@ -41,12 +41,29 @@ use Rattle.items.proofs.Joins.{item-length}
 use Rattle.record.specs.declared.Record.{Record}
 use Rattle.record.specs.declared.Time.{Time}
 use Rattle.record.specs.declared.Time.the-variants.{Absent, Given}
-use Rattle.mdi_spots.specs.Names as name
+use Rattle.tag_spots.proofs.Names.{name-at}
+use Rattle.mdi_spots.specs.Table.{table, namesOf, nameOf}
 use Rattle.mdi_write.specs.Packet.{timeBytes}
 use Rattle.mdi_write.specs.Answers.{badTime}
-use Rattle.mdi_write.specs.Rows.{wire, wireSize, sizeFor}
+use Rattle.mdi_write.specs.Rows.{allNames, wire, wireSize, sizeFor}
 
 -- ---- one item
+-- every name has four bytes: a computed test
+abbrev pub fours : List (List ℕ) → Bool
+fours [] = true
+fours (n ∷ ns) = eqb (length n) 4 && fours ns
+
+pub four-at : (ns : List (List ℕ)) → fours ns ≡ true → (k : ℕ) → k < length ns → length (getD ns k []) ≡ 4
+four-at [] e k h = absurd (omega arith)
+four-at (n ∷ ns) e zero h = eqb-true _ _ (both (eqb (length n) 4) (fours ns) e .0)
+four-at (n ∷ ns) e (suc k) h = four-at ns (both (eqb (length n) 4) (fours ns) e .1) k (omega arith)
+
+-- its name, out of all names
+pub name-is : (names : List ℕ) (row : ℕ) → names ≡ allNames → row < 11 → take (4 * row + 4 - 4 * row) (drop (4 * row) names) ≡ nameOf row
+name-is names row e h =
+    let w : 4 * row + 4 - 4 * row ≡ 4 = omega arith in
+    ap₂ (λ (k : ℕ) (l : List ℕ). take k (drop (4 * row) l)) w e ∙ name-at (namesOf table) refl row h
+
 some-bits : (n : ℕ) → (n ≡ 0 → ⊥) → 8 * n ≡ 0 → ⊥
 some-bits n h e = h (omega arith)
 
@@ -94,20 +111,6 @@ module _ (n v out : List ℕ) (at : ℕ) where
       (omega arith, rw (ne-eqb _ _ (some-bits (length v) h)) (wg ∙ ap (written out at) (append-assoc n (bytesOf 4 b) v)))
 
 -- ---- an item of a value that is known
-pub fixed-room : (v x out : List ℕ) (at k : ℕ) → v ≡ x → length x ≡ k → (k ≡ 0 → ⊥) → k ≤ 65528 → at + (8 + k) ≤ length out
-    → (length v ≤ 65528) × (at + wireSize (length v) ≤ length out)
-fixed-room v x out at k q l z m h =
-    let s : 8 + length x ≡ wireSize (length x) = size-is (length x) (λ e. z (sym l ∙ e)) in
-    let a : length x ≤ 65528 = omega arith in
-    let b : at + wireSize (length x) ≤ length out = omega arith in
-    rw q (a, b)
-
-pub fixed-put : (v x out e n : List ℕ) (at r k : ℕ) → v ≡ x → length x ≡ k → (k ≡ 0 → ⊥) → r ≡ at + wireSize (length v) → e ≡ written out at (wire n v)
-    → (r ≡ at + (8 + k)) × (e ≡ written out at (wire n x))
-fixed-put v x out e n at r k q l z p w =
-    let s : 8 + length x ≡ wireSize (length x) = size-is (length x) (λ h. z (sym l ∙ h)) in
-    (p ∙ ap (λ (t : List ℕ). at + wireSize (length t)) q ∙ (let j = s in omega arith), w ∙ ap (λ (t : List ℕ). written out at (wire n t)) q)
-
 pub any-put : (v x out e n : List ℕ) (at r : ℕ) → v ≡ x → r ≡ at + wireSize (length v) → e ≡ written out at (wire n v)
     → (r ≡ at + wireSize (length x)) × (e ≡ written out at (wire n x))
 any-put v x out e n at r q p w = (p ∙ ap (λ (t : List ℕ). at + wireSize (length t)) q, w ∙ ap (λ (t : List ℕ). written out at (wire n t)) q)
@@ -224,21 +227,21 @@ module _ (time : Time) where
   bad-some t b e q = q ∙ rw e refl
 
   module _ (out : List ℕ) (at : ℕ) where
-    pub time-none : time ≡ Absent → (at ≡ at + wireSize (length (timeBytes time))) × (out ≡ written out at (wire name.tist (timeBytes time)))
+    pub time-none : time ≡ Absent → (at ≡ at + wireSize (length (timeBytes time))) × (out ≡ written out at (wire (nameOf 10) (timeBytes time)))
     unfolding timeBytes
-    time-none e = rw e (item-none name.tist [] out at refl)
+    time-none e = rw e (item-none (nameOf 10) [] out at refl)
 
-    pub time-ready : (t : Stamp) → time ≡ Given t → badTime time ≡ false → at + wireSize (length (timeBytes time)) ≤ length out → clock.Within t × (at + 16 ≤ length out)
-    unfolding badTime
+    pub time-ready : (t : Stamp) → time ≡ Given t → badTime time ≡ false → at + wireSize (length (timeBytes time)) ≤ length out
+        → clock.Within t × (at + wireSize (length (clock.stampBytes t)) ≤ length out)
+    unfolding badTime timeBytes
     time-ready t e b h =
-        let s = time-size-some t e .0 in
         let b2 : not (eqb (refusedWith (clock.fieldTests t)) 0) ≡ false = rw e at b in
-        (within t (eqb-true _ _ (not-false _ b2)), omega arith)
+        (within t (eqb-true _ _ (not-false _ b2)), rw e at h)
 
-    pub time-some : (t : Stamp) (r : ℕ) (e : List ℕ) → time ≡ Given t → r ≡ at + 16 → e ≡ written out at (wire name.tist (clock.stampBytes t))
-        → (r ≡ at + wireSize (length (timeBytes time))) × (e ≡ written out at (wire name.tist (timeBytes time)))
+    pub time-some : (t : Stamp) (r : ℕ) (e : List ℕ) → time ≡ Given t → r ≡ at + wireSize (length (clock.stampBytes t)) → e ≡ written out at (wire (nameOf 10) (clock.stampBytes t))
+        → (r ≡ at + wireSize (length (timeBytes time))) × (e ≡ written out at (wire (nameOf 10) (timeBytes time)))
     unfolding timeBytes
-    time-some t r e q p w = (p ∙ ap (λ (k : ℕ). at + k) (time-size-some t q .0), w ∙ rw q refl)
+    time-some t r e q p w = (p ∙ rw q refl, w ∙ rw q refl)
 
 -- a timestamp's own refusals, with room for it
 pub stamp-wrong : (t : Stamp) (x : Rattle.clock.specs.declared.Encoded.Encoded) → x ≡ clock.encodedFor t (replicate 8 0) → not (eqb (x .number) 0) ≡ not (eqb (refusedWith (clock.fieldTests t)) 0)

@@ -5,7 +5,8 @@ use lib.ListN.{length}
 use Rattle.laws.specs.Big.{bytesOf}
 use Rattle.items.specs.Items.{Item}
 use Rattle.items.specs.Joined.{joined, kept}
-use Rattle.mdi_spots.specs.Names as name
+use Rattle.mdi_spots.specs.Names.{letters}
+use Rattle.mdi_spots.specs.Table.{table, namesOf}
 use Rattle.clock.specs.Stamps.{stampBytes}
 use Rattle.description.specs.Bytes as described
 use Rattle.fac.specs.Channel.{facBytes}
@@ -30,29 +31,38 @@ entry name value = record { place = 0; name = name; bits = 8 * length value; val
 
 -- DMDI, major revision 0, minor revision 0
 abbrev pub opening : List ℕ
-opening = name.letters ++ (0 ∷ 0 ∷ 0 ∷ 0 ∷ [])
+opening = letters ++ (0 ∷ 0 ∷ 0 ∷ 0 ∷ [])
 
 -- the value of a `tist` item: empty where there is no timestamp
 unfoldable pub timeBytes : Time → List ℕ
 timeBytes Absent = []
 timeBytes (Given t) = stampBytes t
 
--- 01's table, in its order: the items before the streams, the streams, the timestamp
-unfoldable pub headRows : Record → List Item
-headRows r =
-    entry name.ptr opening
-    ∷ entry name.dlfc (bytesOf 4 (r .count))
-    ∷ entry name.fac (facBytes (r .fac))
-    ∷ entry name.sdc (sdcBytes (r .sdc))
-    ∷ entry name.sdci (described.valueOf (r .description))
-    ∷ entry name.robm (r .robustness ∷ [])
+-- the values in the order of 01's table: those before the streams, the streams, the timestamp
+abbrev pub headValues : Record → List (List ℕ)
+headValues r =
+    opening
+    ∷ bytesOf 4 (r .count)
+    ∷ facBytes (r .fac)
+    ∷ sdcBytes (r .sdc)
+    ∷ described.valueOf (r .description)
+    ∷ (r .robustness ∷ [])
     ∷ []
 
-unfoldable pub streamRows : Streams → List Item
-streamRows ss = entry name.str0 (ss .s0) ∷ entry name.str1 (ss .s1) ∷ entry name.str2 (ss .s2) ∷ entry name.str3 (ss .s3) ∷ []
+abbrev pub streamValues : Streams → List (List ℕ)
+streamValues ss = ss .s0 ∷ ss .s1 ∷ ss .s2 ∷ ss .s3 ∷ []
 
-unfoldable pub table : Record → Streams → List Item
-table r ss = headRows r ++ (streamRows ss ++ (entry name.tist (timeBytes (r .time)) ∷ []))
+abbrev pub valuesOf : Record → Streams → List (List ℕ)
+valuesOf r ss = headValues r ++ (streamValues ss ++ (timeBytes (r .time) ∷ []))
+
+-- each under the name of its row
+abbrev pub entries : List (List ℕ) → List (List ℕ) → List Item
+entries ns [] = []
+entries [] (v ∷ vs) = []
+entries (n ∷ ns) (v ∷ vs) = entry n v ∷ entries ns vs
+
+unfoldable pub itemsOf : Record → Streams → List Item
+itemsOf r ss = entries (namesOf table) (valuesOf r ss)
 
 unfoldable pub packetOf : Record → Streams → List ℕ
-packetOf r ss = joined (kept (table r ss))
+packetOf r ss = joined (kept (itemsOf r ss))

@@ -3,14 +3,20 @@ use Prim.Native.Nat.{ℕ, _+_, _*_, _≤_}
 use mathlib.Core.Bool.{Bool, false}
 use mathlib.Core.Path.{_≡_}
 use mathlib.Core.List.{List}
-use lib.ListN.{length}
-use Rattle.items.specs.Joined.{chunk, chunkSize}
+use lib.ListN.{length, drop}
+use Rattle.items.specs.Joined.{joined, kept, chunk, chunkSize}
+use Rattle.tag_spots.specs.Rows.{inRow}
+use Rattle.mdi_spots.specs.Table.{table, namesOf}
 use Rattle.description.specs.WellFormed as described
 use Rattle.fac.specs.Channel as fast
 use Rattle.sdc.specs.Block.{sdcBytes}
 use Rattle.record.specs.declared.Record.{Record}
-use Rattle.mdi_write.specs.Packet.{timeBytes}
+use Rattle.mdi_write.specs.Packet.{timeBytes, entries}
 use Rattle.mdi_write.specs.Answers.{badTime}
+
+-- the names, one behind the other
+abbrev pub allNames : List ℕ
+allNames = inRow (namesOf table)
 
 -- an item as it is written, and how many bytes it takes with n bytes of value
 abbrev pub wire : List ℕ → List ℕ → List ℕ
@@ -19,8 +25,12 @@ wire name value = chunk name (8 * length value) value
 abbrev pub wireSize : ℕ → ℕ
 wireSize n = chunkSize (8 * n) n
 
+-- values in the rows from row k on, as they are written
+abbrev pub laid : ℕ → List (List ℕ) → List ℕ
+laid k vs = joined (kept (entries (drop k (namesOf table)) vs))
+
 -- what has been tested once the items before the streams are written
-pub record Ready (r : Record) : Type 0 where
+pub record Tested (r : Record) : Type 0 where
   pub fits : fast.tooLarge (r .fac) ≡ false
   pub served : fast.notServed (r .fac) ≡ false
   pub small : described.tooLarge (r .description) ≡ false

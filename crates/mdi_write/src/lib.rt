@@ -16,11 +16,10 @@ ghost use Rattle.description.specs.Answers.{unserved};
 ghost use Rattle.fac.specs.Channel as fast;
 ghost use Rattle.fac.specs.Channel.{facBytes};
 ghost use Rattle.sdc.specs.Block.{sdcBytes};
-ghost use Rattle.items.specs.Joined.{joined, kept};
-ghost use Rattle.mdi_spots.specs.Names as name;
+ghost use Rattle.mdi_spots.specs.Table.{nameOf};
 ghost use Rattle.mdi_spots.specs.Streams.{filled};
-ghost use Rattle.mdi_write.specs.Packet.{four, timeBytes, headRows, streamRows, packetOf};
-ghost use Rattle.mdi_write.specs.Rows.{wire, wireSize, sizeFor, Ready};
+ghost use Rattle.mdi_write.specs.Packet.{four, timeBytes, headValues, streamValues};
+ghost use Rattle.mdi_write.specs.Rows.{allNames, wire, wireSize, laid, sizeFor, Tested};
 ghost use Rattle.mdi_write.specs.Answers.{anyLong, badTime, tooLarge, writeTests, writeFor, outFor};
 
 // The number, and the bytes written: 0 where it is refused.
@@ -37,121 +36,136 @@ fn item_size(n: usize) -> usize
     if n == 0 { 0 } else { 8 + n }
 }
 
-// Writes an item at an offset, and answers the offset behind it. An empty one is left out.
-fn put_item(name: &[u8; 4], value: &[u8], out: &mut [u8], at: usize) -> usize
-    requires { ⌜ (length (now value) ≤ 65528) × (at + wireSize (length (now value)) ≤ length (now out)) ⌝ }
+// Writes the item of a row of the table at an offset, and answers the offset behind it. An empty one is left out.
+fn put_item(names: &[u8], row: usize, value: &[u8], out: &mut [u8], at: usize) -> usize
+    requires { ⌜ (now names ≡ allNames) × (row < 11) × (length (now value) ≤ 65528) × (at + wireSize (length (now value)) ≤ length (now out)) ⌝ }
     ensures { λ r. ⌜ r ≡ at + wireSize (length (now (value .entry))) ⌝ }
-    ensures { λ _. ⌜ now (out .exit) ≡ written (now (out .entry)) at (wire (now (name .entry)) (now (value .entry))) ⌝ }
+    ensures { λ _. ⌜ now (out .exit) ≡ written (now (out .entry)) at (wire (nameOf row) (now (value .entry))) ⌝ }
 {
     let n = value.len();
     if n == 0 {
         return at;
     }
-    moves::copy(name, out, at);
+    moves::copy(&names[4 * row..4 * row + 4], out, at);
     fields::write32(out, at + 4, (8 * n) as u32);
     moves::copy(value, out, at + 8);
     at + 8 + n
 }
 
-fn put_count(count: u32, out: &mut [u8], at: usize) -> usize
-    requires { ⌜ at + 12 ≤ length (now out) ⌝ }
-    ensures { λ r. ⌜ r ≡ at + 12 ⌝ }
-    ensures { λ _. ⌜ now (out .exit) ≡ written (now (out .entry)) at (wire name.dlfc (bytesOf 4 count)) ⌝ }
+fn put_count(names: &[u8], count: u32, out: &mut [u8], at: usize) -> usize
+    requires { ⌜ (now names ≡ allNames) × (at + wireSize (length (bytesOf 4 count)) ≤ length (now out)) ⌝ }
+    ensures { λ r. ⌜ r ≡ at + wireSize (length (bytesOf 4 count)) ⌝ }
+    ensures { λ _. ⌜ now (out .exit) ≡ written (now (out .entry)) at (wire (nameOf 1) (bytesOf 4 count)) ⌝ }
 {
     let mut value = [0u8; 4];
     fields::write32(&mut value, 0, count);
-    put_item(b"dlfc", &value, out, at)
+    put_item(names, mdi_spots::DLFC, &value, out, at)
 }
 
-fn put_fac(f: fac::Fac, out: &mut [u8], at: usize) -> usize
-    requires { ⌜ (fast.tooLarge f ≡ false) × (fast.notServed f ≡ false) × (at + 17 ≤ length (now out)) ⌝ }
-    ensures { λ r. ⌜ r ≡ at + 17 ⌝ }
-    ensures { λ _. ⌜ now (out .exit) ≡ written (now (out .entry)) at (wire name.fac (facBytes f)) ⌝ }
+fn put_fac(names: &[u8], f: fac::Fac, out: &mut [u8], at: usize) -> usize
+    requires { ⌜ (now names ≡ allNames) × (fast.tooLarge f ≡ false) × (fast.notServed f ≡ false) × (at + wireSize (length (facBytes f)) ≤ length (now out)) ⌝ }
+    ensures { λ r. ⌜ r ≡ at + wireSize (length (facBytes f)) ⌝ }
+    ensures { λ _. ⌜ now (out .exit) ≡ written (now (out .entry)) at (wire (nameOf 2) (facBytes f)) ⌝ }
 {
     let mut value = [0u8; 9];
     fac::write(f, &mut value);
-    put_item(b"fac_", &value, out, at)
+    put_item(names, mdi_spots::FAC, &value, out, at)
 }
 
-fn put_sdc(s: sdc::Sdc, out: &mut [u8], at: usize) -> usize
-    requires { ⌜ at + wireSize (length (sdcBytes s)) ≤ length (now out) ⌝ }
+fn put_sdc(names: &[u8], s: sdc::Sdc, out: &mut [u8], at: usize) -> usize
+    requires { ⌜ (now names ≡ allNames) × (at + wireSize (length (sdcBytes s)) ≤ length (now out)) ⌝ }
     ensures { λ r. ⌜ r ≡ at + wireSize (length (sdcBytes s)) ⌝ }
-    ensures { λ _. ⌜ now (out .exit) ≡ written (now (out .entry)) at (wire name.sdc (sdcBytes s)) ⌝ }
+    ensures { λ _. ⌜ now (out .exit) ≡ written (now (out .entry)) at (wire (nameOf 3) (sdcBytes s)) ⌝ }
 {
     let mut value = [0u8; 1027];
     sdc::put(s, &mut value, 0);
     let n = sdc::value_length(s);
-    put_item(b"sdc_", &value[0..n], out, at)
+    put_item(names, mdi_spots::SDC, &value[0..n], out, at)
 }
 
-fn put_description(d: description::Description, mode: u8, out: &mut [u8], at: usize) -> usize
-    requires { ⌜ (described.tooLarge d ≡ false) × (mode ≤ 3) × (unserved mode ≡ false) × (described.illFormed mode d ≡ false) × (at + wireSize (length (valueOf d)) ≤ length (now out)) ⌝ }
+fn put_description(
+    names: &[u8],
+    d: description::Description,
+    mode: u8,
+    out: &mut [u8],
+    at: usize,
+) -> usize
+    requires { ⌜ (now names ≡ allNames) × (described.tooLarge d ≡ false) × (mode ≤ 3) × (unserved mode ≡ false) × (described.illFormed mode d ≡ false) × (at + wireSize (length (valueOf d)) ≤ length (now out)) ⌝ }
     ensures { λ r. ⌜ r ≡ at + wireSize (length (valueOf d)) ⌝ }
-    ensures { λ _. ⌜ now (out .exit) ≡ written (now (out .entry)) at (wire name.sdci (valueOf d)) ⌝ }
+    ensures { λ _. ⌜ now (out .exit) ≡ written (now (out .entry)) at (wire (nameOf 4) (valueOf d)) ⌝ }
 {
     let mut value = [0u8; 13];
     let w = description::write(d, mode, &mut value);
     let n = w.len;
-    put_item(b"sdci", &value[0..n], out, at)
+    put_item(names, mdi_spots::SDCI, &value[0..n], out, at)
 }
 
-fn put_mode(robustness: u8, out: &mut [u8], at: usize) -> usize
-    requires { ⌜ at + 9 ≤ length (now out) ⌝ }
-    ensures { λ r. ⌜ r ≡ at + 9 ⌝ }
-    ensures { λ _. ⌜ now (out .exit) ≡ written (now (out .entry)) at (wire name.robm (robustness ∷ [])) ⌝ }
+fn put_mode(names: &[u8], robustness: u8, out: &mut [u8], at: usize) -> usize
+    requires { ⌜ (now names ≡ allNames) × (at + wireSize (length (robustness ∷ [])) ≤ length (now out)) ⌝ }
+    ensures { λ r. ⌜ r ≡ at + wireSize (length (robustness ∷ [])) ⌝ }
+    ensures { λ _. ⌜ now (out .exit) ≡ written (now (out .entry)) at (wire (nameOf 5) (robustness ∷ [])) ⌝ }
 {
     let value = [robustness];
-    put_item(b"robm", &value, out, at)
+    put_item(names, mdi_spots::ROBM, &value, out, at)
 }
 
-fn put_stamp(t: clock::Stamp, out: &mut [u8], at: usize) -> usize
-    requires { ⌜ Within t × (at + 16 ≤ length (now out)) ⌝ }
-    ensures { λ r. ⌜ r ≡ at + 16 ⌝ }
-    ensures { λ _. ⌜ now (out .exit) ≡ written (now (out .entry)) at (wire name.tist (stampBytes t)) ⌝ }
+fn put_stamp(names: &[u8], t: clock::Stamp, out: &mut [u8], at: usize) -> usize
+    requires { ⌜ (now names ≡ allNames) × Within t × (at + wireSize (length (stampBytes t)) ≤ length (now out)) ⌝ }
+    ensures { λ r. ⌜ r ≡ at + wireSize (length (stampBytes t)) ⌝ }
+    ensures { λ _. ⌜ now (out .exit) ≡ written (now (out .entry)) at (wire (nameOf 10) (stampBytes t)) ⌝ }
 {
     let mut value = [0u8; 8];
     clock::encode(t, &mut value);
-    put_item(b"tist", &value, out, at)
+    put_item(names, mdi_spots::TIST, &value, out, at)
 }
 
-fn put_time(time: record::Time, out: &mut [u8], at: usize) -> usize
-    requires { ⌜ (badTime time ≡ false) × (at + wireSize (length (timeBytes time)) ≤ length (now out)) ⌝ }
+fn put_time(names: &[u8], time: record::Time, out: &mut [u8], at: usize) -> usize
+    requires { ⌜ (now names ≡ allNames) × (badTime time ≡ false) × (at + wireSize (length (timeBytes time)) ≤ length (now out)) ⌝ }
     ensures { λ r. ⌜ r ≡ at + wireSize (length (timeBytes time)) ⌝ }
-    ensures { λ _. ⌜ now (out .exit) ≡ written (now (out .entry)) at (wire name.tist (timeBytes time)) ⌝ }
+    ensures { λ _. ⌜ now (out .exit) ≡ written (now (out .entry)) at (wire (nameOf 10) (timeBytes time)) ⌝ }
 {
     match time {
         record::Time::Absent => at,
-        record::Time::Given { stamp } => put_stamp(stamp, out, at),
+        record::Time::Given { stamp } => put_stamp(names, stamp, out, at),
     }
 }
 
 // The items before the streams, at the front of the output.
-fn put_head(r: record::Record, out: &mut [u8]) -> usize
-    requires { ⌜ Ready r × (length (joined (kept (headRows r))) ≤ length (now out)) ⌝ }
-    ensures { λ n. ⌜ n ≡ length (joined (kept (headRows r))) ⌝ }
-    ensures { λ _. ⌜ now (out .exit) ≡ written (now (out .entry)) 0 (joined (kept (headRows r))) ⌝ }
+fn put_head(names: &[u8], r: record::Record, out: &mut [u8]) -> usize
+    requires { ⌜ (now names ≡ allNames) × Tested r × (0 + length (laid 0 (headValues r)) ≤ length (now out)) ⌝ }
+    ensures { λ n. ⌜ n ≡ 0 + length (laid 0 (headValues r)) ⌝ }
+    ensures { λ _. ⌜ now (out .exit) ≡ written (now (out .entry)) 0 (laid 0 (headValues r)) ⌝ }
 {
     let f = r.fac;
     let s = r.sdc;
     let d = r.description;
-    let a = put_item(b"*ptr", b"DMDI\0\0\0\0", out, 0);
-    let b = put_count(r.count, out, a);
-    let c = put_fac(f, out, b);
-    let e = put_sdc(s, out, c);
-    let g = put_description(d, f.msc, out, e);
-    put_mode(r.robustness, out, g)
+    let opening = mdi_spots::OPENING;
+    let a = put_item(names, mdi_spots::PTR, &opening, out, 0);
+    let b = put_count(names, r.count, out, a);
+    let c = put_fac(names, f, out, b);
+    let e = put_sdc(names, s, out, c);
+    let g = put_description(names, d, f.msc, out, e);
+    put_mode(names, r.robustness, out, g)
 }
 
 // The streams, behind them.
-fn put_streams(s0: &[u8], s1: &[u8], s2: &[u8], s3: &[u8], out: &mut [u8], at: usize) -> usize
-    requires { ⌜ (anyLong (four (now s0) (now s1) (now s2) (now s3)) ≡ false) × (at + length (joined (kept (streamRows (four (now s0) (now s1) (now s2) (now s3))))) ≤ length (now out)) ⌝ }
-    ensures { λ n. ⌜ n ≡ at + length (joined (kept (streamRows (four (now (s0 .entry)) (now (s1 .entry)) (now (s2 .entry)) (now (s3 .entry)))))) ⌝ }
-    ensures { λ _. ⌜ now (out .exit) ≡ written (now (out .entry)) at (joined (kept (streamRows (four (now (s0 .entry)) (now (s1 .entry)) (now (s2 .entry)) (now (s3 .entry)))))) ⌝ }
+fn put_streams(
+    names: &[u8],
+    s0: &[u8],
+    s1: &[u8],
+    s2: &[u8],
+    s3: &[u8],
+    out: &mut [u8],
+    at: usize,
+) -> usize
+    requires { ⌜ (now names ≡ allNames) × (anyLong (four (now s0) (now s1) (now s2) (now s3)) ≡ false) × (at + length (laid 6 (streamValues (four (now s0) (now s1) (now s2) (now s3)))) ≤ length (now out)) ⌝ }
+    ensures { λ n. ⌜ n ≡ at + length (laid 6 (streamValues (four (now (s0 .entry)) (now (s1 .entry)) (now (s2 .entry)) (now (s3 .entry))))) ⌝ }
+    ensures { λ _. ⌜ now (out .exit) ≡ written (now (out .entry)) at (laid 6 (streamValues (four (now (s0 .entry)) (now (s1 .entry)) (now (s2 .entry)) (now (s3 .entry))))) ⌝ }
 {
-    let a = put_item(b"str0", s0, out, at);
-    let b = put_item(b"str1", s1, out, a);
-    let c = put_item(b"str2", s2, out, b);
-    put_item(b"str3", s3, out, c)
+    let a = put_item(names, mdi_spots::STR0, s0, out, at);
+    let b = put_item(names, mdi_spots::STR1, s1, out, a);
+    let c = put_item(names, mdi_spots::STR2, s2, out, b);
+    put_item(names, mdi_spots::STR3, s3, out, c)
 }
 
 // Whether a stream is longer than any input may be.
@@ -276,8 +290,9 @@ pub fn write(r: record::Record, s0: &[u8], s1: &[u8], s2: &[u8], s3: &[u8], out:
         return Wrote { number, length: 0 };
     }
     let t = r.time;
-    let a = put_head(r, out);
-    let b = put_streams(s0, s1, s2, s3, out, a);
-    let length = put_time(t, out, b);
+    let names = mdi_spots::NAMES;
+    let a = put_head(&names, r, out);
+    let b = put_streams(&names, s0, s1, s2, s3, out, a);
+    let length = put_time(&names, t, out, b);
     Wrote { number: 0, length }
 }

@@ -1,5 +1,5 @@
 -- Tables of names: their numbers find what they find. Assumes nothing.
-use Prim.Native.Nat.{ℕ, zero, suc, _+_, _≤_, _<_}
+use Prim.Native.Nat.{ℕ, zero, suc, _+_, _*_, _≤_, _<_}
 use mathlib.Core.Path.{_≡_, refl, sym, ap, ap₂, _∙_}
 use mathlib.Core.Bool.{Bool, true, false, _&&_, _||_, not, true≢false}
 use mathlib.Core.List.{List, [], _∷_, _++_, map}
@@ -7,6 +7,7 @@ use native.Mathlib.Omega.{arith}
 use borrow.Author.Tests.{eq-eqb, ne-eqb, eqb-true, ltb-true}
 use lib.Dec.{eqb, ltb}
 use lib.ListN.{length, getD, take, drop, replicate, length-replicate}
+use lib.Seq.{take-at, drop-at, drop-drop}
 use Rattle.laws.specs.Pick.{pick}
 use Rattle.laws.specs.Big.{bigOf, Bytes}
 use Rattle.laws.proofs.Big.{bytes-take, bytes-drop}
@@ -15,7 +16,7 @@ use Rattle.items.specs.Items.{Item, Found, none, some, cutOf, sameName, find, s
 use Rattle.items.proofs.Names.{same-list, list-same, number-same}
 use Rattle.items.proofs.Stands.{Stands, stand}
 use Rattle.items.specs.declared.Spot.{Spot}
-use Rattle.tag_spots.specs.Rows.{each, keysOf, keyed, taken, rowAfter, startsAfter, bitsAfter, startsFor, bitsFor}
+use Rattle.tag_spots.specs.Rows.{each, inRow, keysOf, keyed, taken, rowAfter, startsAfter, bitsAfter, startsFor, bitsFor}
 
 -- ---- a name and its number
 
@@ -29,11 +30,6 @@ small-bytes [] e k = omega arith
 small-bytes (x ∷ s) e zero = ltb-true x 256 (both (ltb x 256) (small s) e .0)
 small-bytes (x ∷ s) e (suc k) = small-bytes s (both (ltb x 256) (small s) e .1) k
 
--- the names one behind the other, as they stand in the source
-abbrev pub joined : List (List ℕ) → List ℕ
-joined [] = []
-joined (n ∷ ns) = n ++ joined ns
-
 abbrev pub zeros : ℕ → List ℕ
 zeros n = replicate n 0
 
@@ -41,6 +37,19 @@ zeros n = replicate n 0
 abbrev pub proper : List (List ℕ) → Bool
 proper [] = true
 proper (n ∷ ns) = (eqb (length n) 4 && small n) && proper ns
+
+four-of : (n : List ℕ) (ns : List (List ℕ)) → proper (n ∷ ns) ≡ true → length n ≡ 4
+four-of n ns p = eqb-true (length n) 4 (both (eqb (length n) 4) (small n) (both (eqb (length n) 4 && small n) (proper ns) p .0) .0)
+
+-- the name of row k, out of the names one behind the other
+pub name-at : (ns : List (List ℕ)) → proper ns ≡ true → (k : ℕ) → k < length ns → take 4 (drop (4 * k) (inRow ns)) ≡ getD ns k []
+name-at [] p k h = absurd (omega arith)
+name-at (n ∷ ns) p zero h = take-at n (inRow ns) 4 (four-of n ns p)
+name-at (n ∷ ns) p (suc k) h =
+    let e : 4 * suc k ≡ 4 + 4 * k = omega arith in
+    ap (λ (j : ℕ). take 4 (drop j (n ++ inRow ns))) e
+    ∙ ap (take 4) (sym (drop-drop (4 * k) 4 (n ++ inRow ns)) ∙ ap (drop (4 * k)) (drop-at n (inRow ns) 4 (four-of n ns p)))
+    ∙ name-at ns (both (eqb (length n) 4 && small n) (proper ns) p .1) k (omega arith)
 
 same-key : (n m : List ℕ) → Bytes n → Bytes m → length n ≡ length m → eqb (bigOf n) (bigOf m) ≡ sameName n m
 same-key n m f g l = go (sameName n m) refl

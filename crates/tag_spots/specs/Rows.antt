@@ -2,7 +2,7 @@
 -- place in the table. A table has slots: the slot at the remainder of a name's number by their count holds the name's row. Assumes nothing.
 use Prim.Native.Nat.{ℕ, zero, suc, _*_, _%_, _^_}
 use mathlib.Core.Bool.{Bool}
-use mathlib.Core.List.{List, [], _∷_}
+use mathlib.Core.List.{List, [], _∷_, _++_}
 use lib.Dec.{eqb}
 use lib.ListN.{length, getD}
 use Rattle.laws.specs.Big.{bigOf, numberAt}
@@ -14,6 +14,11 @@ use Rattle.items.specs.declared.Spot.{Spot}
 abbrev pub each : (ℕ → ℕ) → ℕ → List ℕ
 each f zero = []
 each f (suc n) = f 0 ∷ each (λ j. f (suc j)) n
+
+-- names one behind the other
+abbrev pub inRow : List (List ℕ) → List ℕ
+inRow [] = []
+inRow (n ∷ ns) = n ++ inRow ns
 
 -- ---- the keys
 -- the number of the name of row j. A row that its slot does not hold is not found: its key is 2 ^ 32, which no name has

@@ -1,8 +1,8 @@
 -- `mdi_write::put_count` meets its contract. Assumes nothing.
 use Rattle.laws.proofs.Big.{bytes-length}
-use lib.Dec.{lit≤}
+use lib.Dec.{lit<}
 use native.Mathlib.Omega.{arith}
-use Rattle.mdi_write.proofs.Values.{fixed-room, count-value, fixed-put}
+use Rattle.mdi_write.proofs.Values.{any-room, count-value, any-put}
 use borrow.Author.Needs.{needs}
 use Rattle.mdi_write.proofs.put_count.Statement.{statement}
 use Rattle.mdi_write.proofs.put_count.Tie as tie
@@ -17,13 +17,16 @@ slice-aggregate-put-item : tie.Need-slice-aggregate-put-item
 slice-aggregate-put-item c = search needs
 
 put-item-requires : tie.Need-put-item-requires
-put-item-requires c κs = fixed-room _ _ (c .before .before .before .before .before .before .before .args .out .now) _ 4 (count-value _ _ (c .before .before .before .before .write32 .ensures .1)) (bytes-length 4 _) (λ e. omega arith) (lit≤ tt) (c .before .before .before .before .before .before .before .pre)
+put-item-requires c κs = let g = c .before .before .before .before .before .before .before in
+    let l = bytes-length 4 (g .args .count) in
+    let q = any-room _ _ (g .args .out .now) _ (count-value _ _ (c .before .before .before .write32 .ensures .1)) (omega arith) (g .pre .1) in
+    (g .pre .0, lit< tt, q .0, q .1)
 
 same-length : tie.Need-same-length
 same-length c = search needs
 
 returns : tie.Need-returns
-returns c = fixed-put _ _ (c .before .before .before .before .before .before .before .before .before .before .args .out .now) _ _ _ _ 4 (count-value _ _ (c .before .before .before .before .before .before .before .write32 .ensures .1)) (bytes-length 4 _) (λ e. omega arith) (c .before .before .put-item .ensures .0) (c .before .before .put-item .ensures .1)
+returns c = any-put _ _ (c .before .before .before .before .before .before .before .before .before .before .args .out .now) _ _ _ _ (count-value _ _ (c .before .before .before .before .before .before .write32 .ensures .1)) (c .before .before .put-item .ensures .0) (c .before .before .put-item .ensures .1)
 
 pub put-count-spec : {M : Type 1} → statement M
 put-count-spec =

@@ -3,6 +3,7 @@ use mathlib.Core.Path.{_≡_}
 use lib.ListN.{length}
 use Rattle.description.proofs.Tests.{sized}
 use native.Mathlib.Omega.{arith}
+use lib.Dec.{lit<}
 use Rattle.mdi_write.proofs.Values.{description-length, description-value, any-room, any-put, value-size, few}
 use borrow.Author.Needs.{needs}
 use Rattle.mdi_write.proofs.put_description.Statement.{statement}
@@ -22,15 +23,16 @@ part-put-item-start c = search needs
 
 part-put-item-end : tie.Need-part-put-item-end
 part-put-item-end c = let g = c .before .before .before .before .before .before in
-    let h = description-length (g .args .d) _ (g .pre .0) (g .pre .1) (g .pre .2) (g .pre .3) _ (c .before .before .before .write .ensures .0) in
+    let h = description-length (g .args .d) _ (g .pre .1) (g .pre .2) (g .pre .3) (g .pre .4) _ (c .before .before .write .ensures .0) in
     omega arith
 
 put-item-requires : tie.Need-put-item-requires
 put-item-requires c κs = let g = c .before .before .before .before .before .before .before .before in
     let n : length (g .args .d .stream) ≡ 4 = search sized in
-    let k = few (g .args .d) _ (g .pre .3) in
+    let k = few (g .args .d) _ (g .pre .4) in
     let z = value-size (g .args .d) n k in
-    any-room _ _ (g .args .out .now) _ (description-value (g .args .d) _ (g .pre .0) (g .pre .1) (g .pre .2) (g .pre .3) _ _ n (c .before .before .before .before .before .write .ensures .0) (c .before .before .before .before .before .write .ensures .1)) (omega arith) (g .pre .4)
+    let q = any-room _ _ (g .args .out .now) _ (description-value (g .args .d) _ (g .pre .1) (g .pre .2) (g .pre .3) (g .pre .4) _ _ n (c .before .before .before .before .write .ensures .0) (c .before .before .before .before .write .ensures .1)) (omega arith) (g .pre .5) in
+    (g .pre .0, lit< tt, q .0, q .1)
 
 same-length : tie.Need-same-length
 same-length c = search needs
@@ -38,7 +40,7 @@ same-length c = search needs
 returns : tie.Need-returns
 returns c = let g = c .before .before .before .before .before .before .before .before .before .before .before in
     let n : length (g .args .d .stream) ≡ 4 = search sized in
-    any-put _ _ (g .args .out .now) _ _ _ _ (description-value (g .args .d) _ (g .pre .0) (g .pre .1) (g .pre .2) (g .pre .3) _ _ n (c .before .before .before .before .before .before .before .before .write .ensures .0) (c .before .before .before .before .before .before .before .before .write .ensures .1)) (c .before .before .put-item .ensures .0) (c .before .before .put-item .ensures .1)
+    any-put _ _ (g .args .out .now) _ _ _ _ (description-value (g .args .d) _ (g .pre .1) (g .pre .2) (g .pre .3) (g .pre .4) _ _ n (c .before .before .before .before .before .before .before .write .ensures .0) (c .before .before .before .before .before .before .before .write .ensures .1)) (c .before .before .put-item .ensures .0) (c .before .before .put-item .ensures .1)
 
 pub put-description-spec : {M : Type 1} → statement M
 put-description-spec =

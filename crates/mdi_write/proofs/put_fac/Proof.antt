@@ -1,8 +1,8 @@
 -- `mdi_write::put_fac` meets its contract. Assumes nothing.
 use Rattle.fac.proofs.Back.{value-length}
-use lib.Dec.{lit≤}
+use lib.Dec.{lit<}
 use native.Mathlib.Omega.{arith}
-use Rattle.mdi_write.proofs.Values.{fixed-room, fac-value, fixed-put}
+use Rattle.mdi_write.proofs.Values.{any-room, fac-value, any-put}
 use borrow.Author.Needs.{needs}
 use Rattle.mdi_write.proofs.put_fac.Statement.{statement}
 use Rattle.mdi_write.proofs.put_fac.Tie as tie
@@ -18,14 +18,16 @@ slice-aggregate-put-item c = search needs
 
 put-item-requires : tie.Need-put-item-requires
 put-item-requires c κs = let g = c .before .before .before .before .before .before .before in
-    fixed-room _ _ (g .args .out .now) _ 9 (fac-value _ (g .args .f) (g .pre .0) (g .pre .1) (c .before .before .before .before .write .ensures .1)) (value-length (g .args .f)) (λ e. omega arith) (lit≤ tt) (g .pre .2)
+    let l = value-length (g .args .f) in
+    let q = any-room _ _ (g .args .out .now) _ (fac-value _ (g .args .f) (g .pre .1) (g .pre .2) (c .before .before .before .write .ensures .1)) (omega arith) (g .pre .3) in
+    (g .pre .0, lit< tt, q .0, q .1)
 
 same-length : tie.Need-same-length
 same-length c = search needs
 
 returns : tie.Need-returns
 returns c = let g = c .before .before .before .before .before .before .before .before .before .before in
-    fixed-put _ _ (g .args .out .now) _ _ _ _ 9 (fac-value _ (g .args .f) (g .pre .0) (g .pre .1) (c .before .before .before .before .before .before .before .write .ensures .1)) (value-length (g .args .f)) (λ e. omega arith) (c .before .before .put-item .ensures .0) (c .before .before .put-item .ensures .1)
+    any-put _ _ (g .args .out .now) _ _ _ _ (fac-value _ (g .args .f) (g .pre .1) (g .pre .2) (c .before .before .before .before .before .before .write .ensures .1)) (c .before .before .put-item .ensures .0) (c .before .before .put-item .ensures .1)
 
 pub put-fac-spec : {M : Type 1} → statement M
 put-fac-spec =

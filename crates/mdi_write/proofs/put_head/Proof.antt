@@ -1,7 +1,8 @@
 -- `mdi_write::put_head` meets its contract. Assumes nothing.
 use Rattle.mdi_write.proofs.Values.{mode-fits, mode-served}
-use lib.Dec.{lit≤}
-use Rattle.mdi_write.proofs.Laying.{head-0, head-1, head-2, head-3, head-4, head-5, head-done}
+use lib.Dec.{lit≤, lit<}
+use Rattle.mdi_write.specs.Packet.{headValues}
+use Rattle.mdi_write.proofs.Laying.{row-first, row-room, row-next, row-done, no-more}
 use borrow.Author.Needs.{needs}
 use Rattle.mdi_write.proofs.put_head.Statement.{statement}
 use Rattle.mdi_write.proofs.put_head.Tie as tie
@@ -11,35 +12,74 @@ slice-aggregate-put-item c = search needs
 
 put-item-requires : tie.Need-put-item-requires
 put-item-requires c κs = let g = c .before .before .before .before .before .before .before in
-    (lit≤ tt, head-0 (g .args .r) (g .args .out .now) (g .pre .1))
+    let vs = headValues (g .args .r) in
+    let r0 = row-first 0 vs (g .args .out .now) 0 (g .pre .2) in
+    (g .pre .0, lit< tt, lit≤ tt, row-room 0 vs 0 (lit< tt) (lit≤ tt) _ _ r0)
 
 put-count-requires : tie.Need-put-count-requires
 put-count-requires c κs = let g = c .before .before .before .before .before .before .before .before .before .before .before in
-    head-1 (g .args .r) (g .args .out .now) (g .pre .1) _ _ (c .before .before .before .put-item .ensures .0) (c .before .before .before .put-item .ensures .1)
+    let vs = headValues (g .args .r) in
+    let r0 = row-first 0 vs (g .args .out .now) 0 (g .pre .2) in
+    let r1 = row-next 0 vs 0 (lit< tt) (lit≤ tt) _ _ r0 _ _ (c .before .before .before .put-item .ensures) in
+    (g .pre .0, row-room 0 vs 1 (lit< tt) (lit≤ tt) _ _ r1)
 
 put-fac-requires : tie.Need-put-fac-requires
 put-fac-requires c κs = let g = c .before .before .before .before .before .before .before .before .before .before .before .before .before .before .before in
-    (g .pre .0 .fits, g .pre .0 .served, head-2 (g .args .r) (g .args .out .now) (g .pre .1) _ _ (c .before .before .before .before .before .before .before .put-item .ensures .0) (c .before .before .before .before .before .before .before .put-item .ensures .1) _ _ (c .before .before .before .put-count .ensures .0) (c .before .before .before .put-count .ensures .1))
+    let vs = headValues (g .args .r) in
+    let r0 = row-first 0 vs (g .args .out .now) 0 (g .pre .2) in
+    let r1 = row-next 0 vs 0 (lit< tt) (lit≤ tt) _ _ r0 _ _ (c .before .before .before .before .before .before .before .put-item .ensures) in
+    let r2 = row-next 0 vs 1 (lit< tt) (lit≤ tt) _ _ r1 _ _ (c .before .before .before .put-count .ensures) in
+    (g .pre .0, g .pre .1 .fits, g .pre .1 .served, row-room 0 vs 2 (lit< tt) (lit≤ tt) _ _ r2)
 
 put-sdc-requires : tie.Need-put-sdc-requires
 put-sdc-requires c κs = let g = c .before .before .before .before .before .before .before .before .before .before .before .before .before .before .before .before .before .before .before in
-    head-3 (g .args .r) (g .args .out .now) (g .pre .1) _ _ (c .before .before .before .before .before .before .before .before .before .before .before .put-item .ensures .0) (c .before .before .before .before .before .before .before .before .before .before .before .put-item .ensures .1) _ _ (c .before .before .before .before .before .before .before .put-count .ensures .0) (c .before .before .before .before .before .before .before .put-count .ensures .1) _ _ (c .before .before .before .put-fac .ensures .0) (c .before .before .before .put-fac .ensures .1)
+    let vs = headValues (g .args .r) in
+    let r0 = row-first 0 vs (g .args .out .now) 0 (g .pre .2) in
+    let r1 = row-next 0 vs 0 (lit< tt) (lit≤ tt) _ _ r0 _ _ (c .before .before .before .before .before .before .before .before .before .before .before .put-item .ensures) in
+    let r2 = row-next 0 vs 1 (lit< tt) (lit≤ tt) _ _ r1 _ _ (c .before .before .before .before .before .before .before .put-count .ensures) in
+    let r3 = row-next 0 vs 2 (lit< tt) (lit≤ tt) _ _ r2 _ _ (c .before .before .before .put-fac .ensures) in
+    (g .pre .0, row-room 0 vs 3 (lit< tt) (lit≤ tt) _ _ r3)
 
 put-description-requires : tie.Need-put-description-requires
 put-description-requires c κs = let g = c .before .before .before .before .before .before .before .before .before .before .before .before .before .before .before .before .before .before .before .before .before .before .before in
-    let w = g .pre .0 in
-    (w .small, mode-fits (g .args .r .fac) (w .fits), mode-served (g .args .r .fac) (w .served), w .formed, head-4 (g .args .r) (g .args .out .now) (g .pre .1) _ _ (c .before .before .before .before .before .before .before .before .before .before .before .before .before .before .before .put-item .ensures .0) (c .before .before .before .before .before .before .before .before .before .before .before .before .before .before .before .put-item .ensures .1) _ _ (c .before .before .before .before .before .before .before .before .before .before .before .put-count .ensures .0) (c .before .before .before .before .before .before .before .before .before .before .before .put-count .ensures .1) _ _ (c .before .before .before .before .before .before .before .put-fac .ensures .0) (c .before .before .before .before .before .before .before .put-fac .ensures .1) _ _ (c .before .before .before .put-sdc .ensures .0) (c .before .before .before .put-sdc .ensures .1))
+    let vs = headValues (g .args .r) in
+    let r0 = row-first 0 vs (g .args .out .now) 0 (g .pre .2) in
+    let r1 = row-next 0 vs 0 (lit< tt) (lit≤ tt) _ _ r0 _ _ (c .before .before .before .before .before .before .before .before .before .before .before .before .before .before .before .put-item .ensures) in
+    let r2 = row-next 0 vs 1 (lit< tt) (lit≤ tt) _ _ r1 _ _ (c .before .before .before .before .before .before .before .before .before .before .before .put-count .ensures) in
+    let r3 = row-next 0 vs 2 (lit< tt) (lit≤ tt) _ _ r2 _ _ (c .before .before .before .before .before .before .before .put-fac .ensures) in
+    let r4 = row-next 0 vs 3 (lit< tt) (lit≤ tt) _ _ r3 _ _ (c .before .before .before .put-sdc .ensures) in
+    (g .pre .0, g .pre .1 .small, mode-fits (g .args .r .fac) (g .pre .1 .fits), mode-served (g .args .r .fac) (g .pre .1 .served), g .pre .1 .formed, row-room 0 vs 4 (lit< tt) (lit≤ tt) _ _ r4)
 
 put-mode-requires : tie.Need-put-mode-requires
 put-mode-requires c κs = let g = c .before .before .before .before .before .before .before .before .before .before .before .before .before .before .before .before .before .before .before .before .before .before .before .before .before .before .before in
-    head-5 (g .args .r) (g .args .out .now) (g .pre .1) _ _ (c .before .before .before .before .before .before .before .before .before .before .before .before .before .before .before .before .before .before .before .put-item .ensures .0) (c .before .before .before .before .before .before .before .before .before .before .before .before .before .before .before .before .before .before .before .put-item .ensures .1) _ _ (c .before .before .before .before .before .before .before .before .before .before .before .before .before .before .before .put-count .ensures .0) (c .before .before .before .before .before .before .before .before .before .before .before .before .before .before .before .put-count .ensures .1) _ _ (c .before .before .before .before .before .before .before .before .before .before .before .put-fac .ensures .0) (c .before .before .before .before .before .before .before .before .before .before .before .put-fac .ensures .1) _ _ (c .before .before .before .before .before .before .before .put-sdc .ensures .0) (c .before .before .before .before .before .before .before .put-sdc .ensures .1) _ _ (c .before .before .before .put-description .ensures .0) (c .before .before .before .put-description .ensures .1)
+    let vs = headValues (g .args .r) in
+    let r0 = row-first 0 vs (g .args .out .now) 0 (g .pre .2) in
+    let r1 = row-next 0 vs 0 (lit< tt) (lit≤ tt) _ _ r0 _ _ (c .before .before .before .before .before .before .before .before .before .before .before .before .before .before .before .before .before .before .before .put-item .ensures) in
+    let r2 = row-next 0 vs 1 (lit< tt) (lit≤ tt) _ _ r1 _ _ (c .before .before .before .before .before .before .before .before .before .before .before .before .before .before .before .put-count .ensures) in
+    let r3 = row-next 0 vs 2 (lit< tt) (lit≤ tt) _ _ r2 _ _ (c .before .before .before .before .before .before .before .before .before .before .before .put-fac .ensures) in
+    let r4 = row-next 0 vs 3 (lit< tt) (lit≤ tt) _ _ r3 _ _ (c .before .before .before .before .before .before .before .put-sdc .ensures) in
+    let r5 = row-next 0 vs 4 (lit< tt) (lit≤ tt) _ _ r4 _ _ (c .before .before .before .put-description .ensures) in
+    (g .pre .0, row-room 0 vs 5 (lit< tt) (lit≤ tt) _ _ r5)
 
 same-length : tie.Need-same-length
 same-length c = search needs
 
 returns : tie.Need-returns
 returns c = let g = c .before .before .before .before .before .before .before .before .before .before .before .before .before .before .before .before .before .before .before .before .before .before .before .before .before .before .before .before .before .before in
-    head-done (g .args .r) (g .args .out .now) (g .pre .1) _ _ (c .before .before .before .before .before .before .before .before .before .before .before .before .before .before .before .before .before .before .before .before .before .before .put-item .ensures .0) (c .before .before .before .before .before .before .before .before .before .before .before .before .before .before .before .before .before .before .before .before .before .before .put-item .ensures .1) _ _ (c .before .before .before .before .before .before .before .before .before .before .before .before .before .before .before .before .before .before .put-count .ensures .0) (c .before .before .before .before .before .before .before .before .before .before .before .before .before .before .before .before .before .before .put-count .ensures .1) _ _ (c .before .before .before .before .before .before .before .before .before .before .before .before .before .before .put-fac .ensures .0) (c .before .before .before .before .before .before .before .before .before .before .before .before .before .before .put-fac .ensures .1) _ _ (c .before .before .before .before .before .before .before .before .before .before .put-sdc .ensures .0) (c .before .before .before .before .before .before .before .before .before .before .put-sdc .ensures .1) _ _ (c .before .before .before .before .before .before .put-description .ensures .0) (c .before .before .before .before .before .before .put-description .ensures .1) _ _ (c .before .before .put-mode .ensures .0) (c .before .before .put-mode .ensures .1)
+    let vs = headValues (g .args .r) in
+    let r0 = row-first 0 vs (g .args .out .now) 0 (g .pre .2) in
+    let r1 = row-next 0 vs 0 (lit< tt) (lit≤ tt) _ _ r0 _ _ (c .before .before .before .before .before .before .before .before .before .before .before .before .before .before .before .before .before .before .before .before .before .before .put-item .ensures) in
+    let r2 = row-next 0 vs 1 (lit< tt) (lit≤ tt) _ _ r1 _ _ (c .before .before .before .before .before .before .before .before .before .before .before .before .before .before .before .before .before .before .put-count .ensures) in
+    let r3 = row-next 0 vs 2 (lit< tt) (lit≤ tt) _ _ r2 _ _ (c .before .before .before .before .before .before .before .before .before .before .before .before .before .before .put-fac .ensures) in
+    let r4 = row-next 0 vs 3 (lit< tt) (lit≤ tt) _ _ r3 _ _ (c .before .before .before .before .before .before .before .before .before .before .put-sdc .ensures) in
+    let r5 = row-next 0 vs 4 (lit< tt) (lit≤ tt) _ _ r4 _ _ (c .before .before .before .before .before .before .put-description .ensures) in
+    row-done 0 vs 0 (lit< tt) (lit≤ tt) _ _ r0 _ _ (c .before .before .before .before .before .before .before .before .before .before .before .before .before .before .before .before .before .before .before .before .before .before .put-item .ensures) _ _
+    (row-done 0 vs 1 (lit< tt) (lit≤ tt) _ _ r1 _ _ (c .before .before .before .before .before .before .before .before .before .before .before .before .before .before .before .before .before .before .put-count .ensures) _ _
+    (row-done 0 vs 2 (lit< tt) (lit≤ tt) _ _ r2 _ _ (c .before .before .before .before .before .before .before .before .before .before .before .before .before .before .put-fac .ensures) _ _
+    (row-done 0 vs 3 (lit< tt) (lit≤ tt) _ _ r3 _ _ (c .before .before .before .before .before .before .before .before .before .before .put-sdc .ensures) _ _
+    (row-done 0 vs 4 (lit< tt) (lit≤ tt) _ _ r4 _ _ (c .before .before .before .before .before .before .put-description .ensures) _ _
+    (row-done 0 vs 5 (lit< tt) (lit≤ tt) _ _ r5 _ _ (c .before .before .put-mode .ensures) _ _
+    (no-more _ _ 6))))))
 
 pub put-head-spec : {M : Type 1} → statement M
 put-head-spec =
