@@ -1,14 +1,12 @@
 -- What the calls read out of the spots of a packet is what its items say. Assumes nothing.
 use Prim.Native.Nat.{ℕ, _+_, _≤_, _<_}
-use mathlib.Core.Path.{_≡_, refl, sym, ap, ap₂, _∙_}
-use mathlib.Core.Bool.{Bool, true, false}
+use mathlib.Core.Path.{_≡_, refl, sym, ap, _∙_}
 use mathlib.Core.List.{List, [], _∷_}
 use native.Mathlib.Omega.{arith}
 use borrow.Author.Tests.{eq-eqb, ne-eqb, lt-ltb, le-ltb}
-use lib.Dec.{eqb, ltb, lit<}
+use lib.Dec.{lit<}
 use lib.ListN.{length, getD}
 use Rattle.laws.specs.Big.{numberAt}
-use Rattle.laws.specs.Pick.{pick}
 use Rattle.laws.specs.Refuse.{refusedWith, refusedAt}
 use Rattle.clock.specs.Stamps.{decodedFor}
 use Rattle.clock.specs.declared.Given as clocked
@@ -22,7 +20,7 @@ use Rattle.record.specs.Records.{noRecord}
 use Rattle.record.specs.declared.Record.{Record}
 use Rattle.record.specs.declared.Time.{Time}
 use Rattle.record.specs.declared.Time.the-variants.{Absent, Given}
-use Rattle.items.specs.Items.{Item, Found, none, some, cutOf, find, spotOf, valueOf, shownAt}
+use Rattle.items.specs.Items.{Found, none, some, cutOf, find, spotOf, valueOf, shownAt}
 use Rattle.items.specs.declared.Spot.{Spot}
 use Rattle.items.proofs.Stands.{value-is}
 use Rattle.mdi_spots.specs.Names.{dlfc, fac, sdc, sdci, robm, tist}
@@ -30,8 +28,8 @@ use Rattle.mdi_spots.specs.Table.{nameOf}
 use Rattle.mdi_spots.specs.Spotted.{spotsOf, spotIn}
 use Rattle.mdi_spots.proofs.Items.{spot-of}
 use Rattle.mdi_spots.specs.declared.Spots.{Spots}
-use Rattle.mdi_check.specs.Refusals.{testsFor, checkFor}
-use Rattle.mdi_check.specs.declared.Verdict.{Verdict}
+use Rattle.mdi.specs.Refusals.{testsFor, checkFor}
+use Rattle.mdi.specs.declared.Verdict.{Verdict}
 use Rattle.mdi.specs.Reading.{timeOf, recordOf, readFor, streamOf, streamFor}
 use Rattle.mdi.specs.declared.Answer.{Answer}
 

@@ -1,1 +1,3 @@
+pub mod Conditions
+pub mod Refusals
 pub mod Reading

@@ -17,7 +17,7 @@ use Rattle.record.specs.declared.Time.the-variants.{Absent, Given}
 use Rattle.items.specs.Items.{Item, Found, none, some, cutOf, find, valueOf}
 use Rattle.mdi_spots.specs.Names.{dlfc, fac, sdc, sdci, robm, tist}
 use Rattle.mdi_spots.specs.Table.{nameOf}
-use Rattle.mdi_check.specs.Refusals.{testsFor}
+use Rattle.mdi.specs.Refusals.{testsFor}
 use Rattle.mdi.specs.declared.Answer.{Answer}
 
 -- the timestamp, where the item is there

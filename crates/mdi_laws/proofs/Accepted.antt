@@ -1,10 +1,10 @@
 -- B1, of the calls and down to the bytes. Assumes nothing.
-use Prim.Native.Nat.{ℕ, _+_, _-_, _≤_, _<_}
-use mathlib.Core.Path.{_≡_, refl, sym, ap, _∙_, subst}
+use Prim.Native.Nat.{ℕ, _+_, _-_, _≤_}
+use mathlib.Core.Path.{_≡_, sym, ap, _∙_, subst}
 use mathlib.Core.Bool.{true}
 use mathlib.Core.List.{List, [], _++_, append-nil}
 use native.Mathlib.Omega.{arith}
-use lib.ListN.{length, drop, length-drop}
+use lib.ListN.{length, length-drop}
 use Rattle.laws.specs.Big.{Bytes}
 use Rattle.laws.specs.Limits.{longest}
 use Rattle.laws.specs.Refuse.{Test, Among}
@@ -12,7 +12,7 @@ use Rattle.items.specs.Items.{Item, cutOf}
 use Rattle.items.specs.Joined.{joined}
 use Rattle.items.specs.Exact.{restOf}
 use Rattle.items.proofs.Exact.{exact}
-use Rattle.mdi_check.specs.Refusals.{testsFor}
+use Rattle.mdi.specs.Refusals.{testsFor}
 use Rattle.mdi.specs.Reading.{readFor}
 use Rattle.mdi.specs.declared.Answer.{Answer}
 use Rattle.mdi_laws.specs.WellFormed.{WellFormed}

@@ -1,20 +1,19 @@
 -- B1: a packet is accepted exactly if it is well formed; and the number of a refusal is the lowest whose condition holds. Assumes
 -- nothing.
-use Prim.Native.Nat.{ℕ, zero, suc, _+_, _-_, _%_, _≤_, _<_}
-use mathlib.Core.Path.{_≡_, refl, sym, ap, ap₂, _∙_, subst}
+use Prim.Native.Nat.{ℕ, zero, suc, _+_, _-_, _≤_, _<_}
+use mathlib.Core.Path.{_≡_, refl, sym, ap, _∙_, subst}
 use mathlib.Core.Bool.{Bool, true, false, _&&_, _||_, not, true≢false}
 use mathlib.Core.List.{List, [], _∷_}
-use mathlib.Core.Logic.{_⊎_, inl, inr, ⊎-elim}
+use mathlib.Core.Logic.{_⊎_, ⊎-elim}
 use native.Mathlib.Omega.{arith}
-use borrow.Author.Tests.{lt-ltb, le-ltb, le-leb, lt-leb, eq-eqb, ne-eqb, eqb-true, ltb-false, leb-true, leb-false}
-use lib.Dec.{ltb, leb, eqb, lit<}
-use lib.ListN.{length, getD, take, List·getD-eq-default}
+use borrow.Author.Tests.{lt-ltb, le-ltb, lt-leb, eq-eqb, eqb-true, ltb-false, leb-false}
+use lib.Dec.{eqb, lit<}
+use lib.ListN.{length, List·getD-eq-default}
 use Rattle.laws.specs.Limits.{longest}
-use Rattle.laws.specs.Pick.{pick}
-use Rattle.laws.specs.Refuse.{Test, refusedWith, refusedAt, Rising, Free, Among}
+use Rattle.laws.specs.Refuse.{Test, refusedWith, Rising, Among}
 use Rattle.laws.proofs.Refuse.{free, real, accepted, least, Given, given}
 use Rattle.laws.proofs.Flags.{both, or-false}
-use Rattle.description.specs.Bytes.{noStream, saidOf, slotAt, describedBy}
+use Rattle.description.specs.Bytes.{noStream, saidOf, describedBy}
 use Rattle.description.specs.WellFormed as described
 use Rattle.description.proofs.Meaning.{within}
 use Rattle.description.specs.WellFormed.{illFormed}
@@ -22,15 +21,15 @@ use Rattle.description.specs.declared.Description.{Description}
 use Rattle.description.specs.declared.Lengths.{Lengths}
 use Rattle.fac.specs.Channel as fast
 use Rattle.sdc.specs.Block as block
-use Rattle.items.specs.Items.{Item, Found, none, some, cutOf, find, twice, isThere, valueOf, Once}
+use Rattle.items.specs.Items.{Item, Found, none, some, cutOf, find, valueOf}
 use Rattle.items.proofs.Once.{once-of, of-once}
 use Rattle.mdi_spots.specs.Names.{ptr, dlfc, fac, sdc, sdci, robm, str0, str1, str2, str3, tist}
 use Rattle.mdi_spots.specs.Table.{Row, table, nameOf, anyRow, absent, wrong, ill, exactly, wholeBytes, sdcBits, sdciBits, missing, badLength}
-use Rattle.mdi_check.specs.Conditions.{protocol, knownMode, onTime, served, mscMode, agrees, badValue, badFac, badSdc, unserved, badDescription, badStreams}
-use Rattle.mdi_check.specs.Conditions as conditions
-use Rattle.mdi_check.specs.Refusals.{itemTests, testsFor}
+use Rattle.mdi.specs.Conditions.{protocol, knownMode, onTime, served, mscMode, agrees, badValue, badFac, badSdc, unserved, badDescription, badStreams}
+use Rattle.mdi.specs.Conditions as conditions
+use Rattle.mdi.specs.Refusals.{itemTests, testsFor}
 use Rattle.mdi.specs.Reading.{streamOf}
-use Rattle.mdi_laws.specs.WellFormed.{Required, Optional, Exactly, WholeBytes, SdcBits, SdciBits, Anything, Protocol, GoodFac, BlockOrNone, Robustness, Milliseconds, descriptionIn, WellFormed}
+use Rattle.mdi_laws.specs.WellFormed.{Exactly, WholeBytes, SdcBits, SdciBits, Anything, Protocol, GoodFac, BlockOrNone, Robustness, Milliseconds, descriptionIn, WellFormed}
 use Rattle.mdi_laws.proofs.Items.{not-no, required, required-back, optional, optional-back, always, ill-always, ill-both, ill-each}
 use Rattle.mdi_laws.proofs.Meaning.{of-header, of-count, of-channel, of-block, of-description, of-robustness, of-stream, of-time}
 

@@ -1,15 +1,14 @@
 -- B3: what was read and is written again reads as the same record and the same streams. Assumes nothing.
-use Prim.Native.Nat.{ℕ, _+_, _*_, _^_, _≤_, _<_}
+use Prim.Native.Nat.{ℕ, _+_, _^_, _≤_, _<_}
 use mathlib.Core.Path.{_≡_, refl, sym, ap, ap₂, _∙_, subst}
-use mathlib.Core.Bool.{Bool, true, false, _&&_, _||_, not, true≢false}
-use mathlib.Core.List.{List, []}
+use mathlib.Core.Bool.{Bool, true, false, not, true≢false}
+use mathlib.Core.List.{List}
 use native.Mathlib.Omega.{arith}
-use borrow.Author.Tests.{le-ltb, leb-true, eq-eqb, not-false}
-use lib.Dec.{ltb, eqb}
-use lib.ListN.{length, getD, take, drop}
-use Rattle.laws.specs.Big.{Bytes, bigOf, numberAt}
+use borrow.Author.Tests.{le-ltb, not-false}
+use lib.ListN.{length, getD, drop}
+use Rattle.laws.specs.Big.{Bytes, numberAt}
 use Rattle.laws.specs.Limits.{longest}
-use Rattle.laws.specs.Refuse.{refusedWith, refusedAt, Free}
+use Rattle.laws.specs.Refuse.{refusedWith, Free}
 use Rattle.laws.proofs.Big.{big-lt, bytes-take, bytes-drop}
 use Rattle.laws.proofs.Refuse.{free, real}
 use Rattle.clock.specs.Stamps as clock
@@ -21,17 +20,13 @@ use Rattle.description.specs.WellFormed as forms
 use Rattle.description.proofs.RoundTrips as descriptions
 use Rattle.fac.specs.Channel as fast
 use Rattle.fac.proofs.Back as channel
-use Rattle.sdc.specs.Block as block
 use Rattle.sdc.proofs.Back as blocks
-use Rattle.record.specs.declared.Record.{Record}
-use Rattle.record.specs.declared.Time.{Time}
-use Rattle.record.specs.declared.Time.the-variants.{Absent, Given}
 use Rattle.items.specs.Items.{Item, Found, none, some, cutOf, find, valueOf, bytesFor}
 use Rattle.items.proofs.Stands.{find-stands, value-length}
 use Rattle.mdi_spots.specs.Names as name
 use Rattle.mdi_spots.specs.Table.{ill}
-use Rattle.mdi_check.specs.Conditions.{knownMode, served, mscMode, agrees, badFac, badSdc, unserved, badDescription, badStreams}
-use Rattle.mdi_check.specs.Refusals.{itemTests, testsFor}
+use Rattle.mdi.specs.Conditions.{served, mscMode, agrees, unserved, badDescription, badStreams}
+use Rattle.mdi.specs.Refusals.{itemTests, testsFor}
 use Rattle.mdi.specs.Reading.{timeOf, recordOf, readFor, streamOf, streamFor}
 use Rattle.mdi.specs.declared.Answer.{Answer}
 use Rattle.mdi_write.specs.Packet.{Streams, four, packetOf}

@@ -23,12 +23,12 @@ use Rattle.sdc.specs.Block as block
 use Rattle.sdc.proofs.Back as blocks
 use Rattle.record.specs.declared.Record.{Record}
 use Rattle.items.specs.Items.{Item, Found, Cut, cutOf, find, sameName, among, valueOf}
-use Rattle.items.specs.Joined.{placed, kept, Sound, Distinct, bare, keep}
+use Rattle.items.specs.Joined.{placed, kept, Sound, Distinct, bare}
 use Rattle.items.proofs.Joins.{cut-packet, kept-all, kept-distinct, once-placed, find-written}
 use Rattle.mdi_spots.specs.Names.{ptr, dlfc, fac, sdc, sdci, robm, str0, str1, str2, str3, tist}
 use Rattle.mdi_spots.specs.Table.{table, namesOf, nameOf, exactly, sdciBits, missing, badLength}
-use Rattle.mdi_check.specs.Conditions.{protocol, knownMode, onTime, served, mscMode, agrees, badValue, badFac, badSdc, unserved, badDescription, badStreams}
-use Rattle.mdi_check.specs.Refusals.{itemTests, testsFor}
+use Rattle.mdi.specs.Conditions.{protocol, knownMode, onTime, served, mscMode, agrees, badValue, badFac, badSdc, unserved, badDescription, badStreams}
+use Rattle.mdi.specs.Refusals.{itemTests, testsFor}
 use Rattle.mdi.specs.Reading.{recordOf, readFor, streamOf, streamFor}
 use Rattle.mdi_write.specs.Packet.{Streams, opening, timeBytes, valuesOf, itemsOf, packetOf}
 use Rattle.mdi_write.specs.Answers.{Fits}
@@ -101,7 +101,7 @@ module _ (r : Record) (ss : Streams) (ty : Typed r) (fits : Fits r ss) where
   items-are = ap (λ (c : Cut). c .items) cut-is
 
   -- what stands in a row is its value
-  st : (k : ℕ) → k < 11 → Stood (find (nameOf k) got) (getD (valuesOf r ss) k [])
+  st : (k : ℕ) → k < length table → Stood (find (nameOf k) got) (getD (valuesOf r ss) k [])
   unfolding itemsOf among sameName
   st k h =
       stood (find (nameOf k) got) (nameOf k) (getD (valuesOf r ss) k [])

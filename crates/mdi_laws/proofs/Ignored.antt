@@ -1,22 +1,18 @@
 -- Packets that are alike are read alike. Assumes nothing.
 use Prim.Native.Nat.{ℕ, zero, suc, _+_, _-_, _/_, _%_, _≤_, _<_}
-use mathlib.Core.Path.{_≡_, refl, sym, ap, ap₂, _∙_, subst}
+use mathlib.Core.Path.{_≡_, refl, sym, ap, ap₂, _∙_}
 use mathlib.Core.Bool.{Bool, true, false, _&&_, _||_, not}
 use mathlib.Core.List.{List, [], _∷_}
-use native.Mathlib.Nat.{div-one}
 use native.Mathlib.Omega.{arith}
-use borrow.Author.Tests.{lt-ltb, le-ltb, lt-leb, eq-eqb}
-use lib.Dec.{ltb, leb, eqb}
+use borrow.Author.Tests.{lt-ltb, le-ltb, lt-leb}
 use lib.ListN.{length, getD, take, drop}
 use lib.Seq.{drop-drop}
 use Rattle.laws.specs.Big.{bigOf, numberAt}
 use Rattle.laws.specs.Limits.{longest}
-use Rattle.laws.specs.Pick.{pick}
-use Rattle.laws.specs.Refuse.{Test, test, refusedWith, refusedAt}
-use Rattle.description.specs.Bytes.{levelBits, fieldsIn, noStream, lengthsOf, slotAt, describedBy}
+use Rattle.laws.specs.Refuse.{refusedWith, refusedAt}
+use Rattle.description.specs.Bytes.{levelBits, fieldsIn, slotAt, describedBy}
 use Rattle.description.specs.WellFormed.{illFormed}
 use Rattle.description.specs.declared.Description.{Description}
-use Rattle.description.specs.declared.Lengths.{Lengths}
 use Rattle.fac.specs.Channel as fast
 use Rattle.fac.specs.Channel.{facOf}
 use Rattle.sdc.specs.Block as block
@@ -25,10 +21,9 @@ use Rattle.items.proofs.Names.{same-list, list-same}
 use Rattle.items.proofs.Once.{of-once}
 use Rattle.mdi_spots.specs.Names.{ptr, dlfc, fac, sdc, sdci, robm, str0, str1, str2, str3, tist}
 use Rattle.mdi_spots.specs.Table.{Row, table, anyRow, namesOf, nameOf, absent, wrong, ill, missing, badLength}
-use Rattle.mdi_check.specs.Conditions.{protocol, knownMode, onTime, served, mscMode, agrees, badValue, badFac, badSdc, unserved, badDescription, badStreams}
-use Rattle.mdi_check.specs.Conditions as conditions
-use Rattle.mdi_check.specs.Refusals.{itemTests, testsFor}
-use Rattle.mdi_check.proofs.Ways.{items-place}
+use Rattle.mdi.specs.Conditions.{protocol, knownMode, onTime, served, mscMode, agrees, badValue, badFac, badSdc, unserved, badDescription, badStreams}
+use Rattle.mdi.specs.Refusals.{itemTests, testsFor}
+use Rattle.mdi.proofs.Checks.{items-place}
 use Rattle.mdi.specs.Reading.{timeOf, recordOf, readFor, streamOf, streamFor}
 use Rattle.mdi_laws.specs.Ignored.{ButMinor, ButReserved}
 use Rattle.mdi_laws.specs.NoMatter.{known}

@@ -1,9 +1,9 @@
 -- What the tests on lengths and values mean. Assumes nothing.
-use Prim.Native.Nat.{ℕ, _+_, _-_, _%_, _≤_, _<_}
-use mathlib.Core.Path.{_≡_, refl, sym, ap, ap₂, _∙_, subst}
-use mathlib.Core.Bool.{Bool, true, false, _&&_, _||_, not, true≢false}
-use mathlib.Core.List.{List, [], _∷_}
-use mathlib.Core.Logic.{_⊎_, inl, inr, ⊎-elim}
+use Prim.Native.Nat.{ℕ, _-_, _%_, _≤_}
+use mathlib.Core.Path.{_≡_, refl, sym, ap, _∙_}
+use mathlib.Core.Bool.{Bool, true, false, _&&_, _||_, not}
+use mathlib.Core.List.{List}
+use mathlib.Core.Logic.{_⊎_, inl, inr}
 use native.Mathlib.Omega.{arith}
 use borrow.Author.Tests.{eq-eqb, ne-eqb, eqb-true, eqb-false, le-leb, leb-true, lt-ltb, le-ltb, ltb-true, ltb-false}
 use lib.Dec.{leb, eqb, ltb}
@@ -26,9 +26,9 @@ use Rattle.items.specs.Items.{bytesFor, sameName}
 use Rattle.items.proofs.Names.{same-list, list-same}
 use Rattle.mdi_spots.specs.Table.{exactly, wholeBytes, sdcBits, sdciBits}
 use Rattle.mdi_spots.specs.Names.{letters}
-use Rattle.mdi_check.specs.Conditions.{protocol, knownMode, onTime, served}
-use Rattle.mdi_laws.specs.WellFormed.{Exactly, WholeBytes, SdcBits, SdciBits, Anything, Protocol, Served, GoodFac, Block, BlockOrNone, Robustness, Milliseconds}
-use Rattle.mdi_laws.proofs.Items.{Means, always, not-no}
+use Rattle.mdi.specs.Conditions.{protocol, knownMode, onTime, served}
+use Rattle.mdi_laws.specs.WellFormed.{Exactly, WholeBytes, SdcBits, SdciBits, Anything, Protocol, Served, GoodFac, BlockOrNone, Robustness, Milliseconds}
+use Rattle.mdi_laws.proofs.Items.{Means, always}
 
 -- ---- lengths
 

@@ -1,11 +1,10 @@
 -- What does not matter, of packets built from items. Assumes nothing.
-use Prim.Native.Nat.{ℕ, _+_, _-_, _≤_, _<_}
-use mathlib.Core.Path.{_≡_, refl, sym, ap, ap₂, _∙_, subst}
-use mathlib.Core.Bool.{Bool, true, false, _||_, true≢false}
+use Prim.Native.Nat.{ℕ, _+_, _-_, _≤_}
+use mathlib.Core.Path.{_≡_, refl, sym, ap, _∙_, subst}
+use mathlib.Core.Bool.{Bool, true, false, true≢false}
 use mathlib.Core.List.{List, [], _∷_, _++_}
 use native.Mathlib.Omega.{arith}
-use lib.ListN.{length, take, drop, length-append}
-use Rattle.laws.specs.Limits.{longest}
+use lib.ListN.{length, length-append}
 use Rattle.laws.specs.Pick.{pick}
 use Rattle.items.specs.Items.{Item, Cut, Found, none, some, cutOf, sameName, among, find, All, Once}
 use Rattle.items.specs.Joined.{joined, placed, Sound, total, bare}

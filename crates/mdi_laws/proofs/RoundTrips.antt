@@ -1,27 +1,25 @@
 -- B2 and B3, of the calls. Assumes nothing.
 use Prim.Native.Nat.{ℕ, zero, suc, _≤_}
-use mathlib.Core.Path.{_≡_, refl, sym, ap, ap₂, _∙_, subst}
+use mathlib.Core.Path.{_≡_, refl, sym, ap, _∙_}
 use mathlib.Core.Bool.{Bool, true, false, not}
 use mathlib.Core.List.{List, []}
 use native.Mathlib.Omega.{arith}
 use borrow.Author.Tests.{lt-ltb, le-ltb, ne-eqb}
-use lib.Dec.{ltb, eqb}
-use lib.ListN.{length, take}
+use lib.Dec.{eqb}
+use lib.ListN.{length}
 use Rattle.laws.specs.Big.{Bytes}
 use Rattle.laws.specs.Pick.{pick}
 use Rattle.laws.specs.Refuse.{refusedWith}
 use Rattle.fac.proofs.Ways.{front}
 use Rattle.laws.proofs.Refuse.{accepted}
 use Rattle.record.specs.declared.Record.{Record}
-use Rattle.items.specs.Items.{cutOf}
-use Rattle.mdi_check.specs.Refusals.{testsFor}
-use Rattle.mdi.specs.Reading.{recordOf, readFor, streamOf, streamFor}
-use Rattle.mdi_write.specs.Packet.{Streams, four, packetOf}
+use Rattle.mdi.specs.Refusals.{testsFor}
+use Rattle.mdi.specs.Reading.{readFor, streamOf, streamFor}
+use Rattle.mdi_write.specs.Packet.{Streams, packetOf}
 use Rattle.mdi_write.specs.Answers.{writeTests, writeNumber, writeFor, outFor, Fits}
 use Rattle.mdi_write.proofs.Numbers.{fits-of}
 use Rattle.mdi_laws.specs.NoMatter.{ReadAlike}
-use Rattle.mdi_laws.specs.Typed.{Typed}
-use Rattle.mdi_laws.specs.RoundTrips.{leftIn, streamsFor, Gives, WrittenIsRead, ReadIsWritten}
+use Rattle.mdi_laws.specs.RoundTrips.{leftIn, streamsFor, WrittenIsRead, ReadIsWritten}
 use Rattle.mdi_laws.proofs.Back.{read-back, streams-back}
 use Rattle.mdi_laws.proofs.Again as reread
 use Rattle.mdi_laws.proofs.Again.{read-is, streams-are, fits-read}

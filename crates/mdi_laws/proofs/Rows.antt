@@ -1,7 +1,7 @@
 -- Values that stand in the rows of 01's table: what is found of them, and that 4 and 5 do not refuse them, by one induction each. Assumes
 -- nothing.
 use Prim.Native.Nat.{ℕ, zero, suc, _*_, _≤_, _<_}
-use mathlib.Core.Path.{_≡_, refl, sym, ap, ap₂, _∙_}
+use mathlib.Core.Path.{_≡_, refl, sym, ap₂, _∙_}
 use mathlib.Core.Bool.{Bool, true, false, _&&_, _||_, not, true≢false}
 use mathlib.Core.List.{List, [], _∷_}
 use native.Mathlib.Omega.{arith}
@@ -9,7 +9,7 @@ use borrow.Author.Tests.{eqb-true, not-true}
 use lib.Dec.{eqb}
 use lib.ListN.{length, getD}
 use Rattle.laws.proofs.Flags.{both, or-false}
-use Rattle.items.specs.Items.{Item, Found, none, some, sameName, find, among, All}
+use Rattle.items.specs.Items.{Item, none, some, sameName, find, among, All}
 use Rattle.items.specs.Joined.{Sound, Distinct, keep}
 use Rattle.items.proofs.Names.{same-list, list-same}
 use Rattle.mdi_spots.specs.Table.{Row, row, anyRow, namesOf, absent, wrong}

@@ -1,7 +1,7 @@
 -- What is found of a table row in the packet written from it: nothing where its value is empty, else the row. Assumes nothing.
-use Prim.Native.Nat.{ℕ, _+_, _*_, _≤_, _<_}
-use mathlib.Core.Path.{_≡_, refl, sym, ap, _∙_}
-use mathlib.Core.Bool.{Bool, true, false, not, true≢false}
+use Prim.Native.Nat.{ℕ, _*_}
+use mathlib.Core.Path.{_≡_, refl, sym, ap}
+use mathlib.Core.Bool.{Bool, true, false, true≢false}
 use mathlib.Core.List.{List, [], _∷_}
 use native.Mathlib.Omega.{arith}
 use borrow.Author.Tests.{eqb-true, eqb-false}
@@ -9,7 +9,7 @@ use lib.Dec.{eqb}
 use lib.ListN.{length}
 use Rattle.laws.specs.Pick.{pick}
 use Rattle.items.specs.Items.{Item, Found, none, some, valueOf}
-use Rattle.items.specs.Joined.{putAt, bare, keep}
+use Rattle.items.specs.Joined.{bare, keep}
 use Rattle.mdi_spots.specs.Table.{absent, wrong, ill}
 use Rattle.mdi_write.specs.Packet.{entry}
 

@@ -28,7 +28,7 @@ use Rattle.record.specs.declared.Time.the-variants.{Absent, Given}
 use Rattle.items.specs.Items.{Found, valueOf}
 use Rattle.items.specs.Joined.{Sound, chunkSize}
 use Rattle.mdi_spots.specs.Table.{exactly, wholeBytes, sdcBits, sdciBits}
-use Rattle.mdi_check.specs.Conditions.{onTime}
+use Rattle.mdi.specs.Conditions.{onTime}
 use Rattle.mdi.specs.Reading.{timeOf}
 use Rattle.mdi_write.specs.Packet.{Streams, entry, timeBytes}
 use Rattle.mdi_write.specs.Answers.{badTime, tooLarge, agreed, Fits}

@@ -8,7 +8,7 @@ use Rattle.laws.specs.Big.{Bytes}
 use Rattle.laws.specs.Refuse.{Test, Among}
 use Rattle.items.specs.Items.{Item}
 use Rattle.items.specs.Joined.{joined}
-use Rattle.mdi_check.specs.Refusals.{testsFor}
+use Rattle.mdi.specs.Refusals.{testsFor}
 use Rattle.mdi.specs.Reading.{readFor}
 use Rattle.mdi_laws.specs.WellFormed.{WellFormed}
 use Rattle.mdi_laws.specs.NoMatter.{Packs}

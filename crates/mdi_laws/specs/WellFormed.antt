@@ -1,7 +1,7 @@
 -- A well-formed MDI packet, in the words of 01 ("MDI packet", "The description and the frame it cuts"; 002, clause 5). Assumes nothing.
 use Prim.Native.Nat.{ℕ, _+_, _-_, _%_, _≤_, _<_}
 use mathlib.Core.Path.{_≡_}
-use mathlib.Core.List.{List, []}
+use mathlib.Core.List.{List}
 use mathlib.Core.Logic.{_⊎_}
 use lib.ListN.{length, getD, take}
 use Rattle.laws.specs.Big.{numberAt}
@@ -16,7 +16,7 @@ use Rattle.fac.specs.declared.Fac.{Fac}
 use Rattle.items.specs.Items.{Item, some, cutOf, find, valueOf, Once}
 use Rattle.mdi_spots.specs.Names.{letters, ptr, dlfc, fac, sdc, sdci, robm, tist}
 use Rattle.mdi_spots.specs.Table.{nameOf}
-use Rattle.mdi_check.specs.Conditions.{mscMode}
+use Rattle.mdi.specs.Conditions.{mscMode}
 use Rattle.mdi.specs.Reading.{streamOf}
 
 -- ---- one item

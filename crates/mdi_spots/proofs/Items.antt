@@ -1,11 +1,10 @@
 -- The tests on spots are the conditions on items, by one induction over the rows. Assumes nothing.
 use Prim.Native.Nat.{ℕ, zero, suc, _+_, _<_}
 use mathlib.Core.Path.{_≡_, refl, sym, ap, ap₂, _∙_}
-use mathlib.Core.Bool.{Bool, true, false, _&&_, _||_, not}
+use mathlib.Core.Bool.{Bool, _&&_, _||_, not}
 use mathlib.Core.List.{List, [], _∷_, map}
 use native.Mathlib.Omega.{arith}
 use borrow.Author.Tests.{ne-eqb}
-use lib.Dec.{eqb}
 use lib.ListN.{length, getD}
 use Rattle.items.specs.Items.{Item, Found, none, some, cutOf, find, spotOf, valueOf, shownAt, bytesFor}
 use Rattle.items.proofs.Stands.{value-is, value-length}
@@ -54,7 +53,7 @@ unfolding spotOf
 whole-spot none = refl
 whole-spot (some i) = refl
 
-row-spot : (is : List Item) (k : ℕ) → k < 11 → spotIn (spotsOf is) k ≡ spotOf (find (nameOf k) is)
+row-spot : (is : List Item) (k : ℕ) → k < length table → spotIn (spotsOf is) k ≡ spotOf (find (nameOf k) is)
 unfolding spotsOf
 row-spot is k h =
     ap₂ (λ (a b : ℕ). record { start = a; bits = b })
@@ -63,7 +62,7 @@ row-spot is k h =
     ∙ whole-spot (find (nameOf k) is)
 
 -- what `spot` gives of them
-pub spot-of : (is : List Item) (t : Spots) → t ≡ spotsOf is → (k : ℕ) → k < 11 → (x : Spot) → x ≡ spotIn t k → x ≡ spotOf (find (nameOf k) is)
+pub spot-of : (is : List Item) (t : Spots) → t ≡ spotsOf is → (k : ℕ) → k < length table → (x : Spot) → x ≡ spotIn t k → x ≡ spotOf (find (nameOf k) is)
 spot-of is t e k h x q = q ∙ ap (λ (s : Spots). spotIn s k) e ∙ row-spot is k h
 
 -- a test of each row's spot is a test of each row's item

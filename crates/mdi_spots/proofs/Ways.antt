@@ -1,15 +1,15 @@
 -- What the calls join. Assumes nothing.
 use Prim.Native.Nat.{ℕ, _≤_}
-use mathlib.Core.Path.{_≡_, refl, sym, ap, _∙_}
+use mathlib.Core.Path.{_≡_, refl, sym, _∙_}
 use mathlib.Core.Bool.{Bool, true, false, _||_}
 use mathlib.Core.List.{List, map}
 use lib.ListN.{length, getD, List·getD-eq-default}
 use native.Mathlib.Omega.{arith}
-use Rattle.laws.specs.Big.{bigOf, numberAt, Bytes}
+use Rattle.laws.specs.Big.{bigOf, Bytes}
 use Rattle.laws.proofs.Flags.{or-none}
 use Rattle.items.specs.Items.{cutOf}
 use Rattle.items.specs.declared.Spot.{Spot}
-use Rattle.tag_spots.specs.Rows.{inRow, keyAt, keysOf, startsFor, bitsFor}
+use Rattle.tag_spots.specs.Rows.{inRow, keysOf, startsFor, bitsFor}
 use Rattle.tag_spots.proofs.Names.{zeros, starts-named, bits-named}
 use Rattle.mdi_spots.specs.Table.{exactly, wholeBytes, sdcBits, sdciBits, table, namesOf}
 use Rattle.mdi_spots.specs.Spotted.{passedOf, spotsOf, spotIn, away, wrongAt, missingAt, badLengthAt}
@@ -18,9 +18,9 @@ use Rattle.mdi_spots.specs.declared.Passed.{Passed}
 
 -- ---- `find_all`
 
-pub found : (S slots starts bits : List ℕ) (stop : ℕ) → Bytes S → keysOf (inRow (namesOf table)) slots 11 ≡ map bigOf (namesOf table)
-    → (stop ≡ cutOf S .stop) × (stop ≤ length S) × (starts ≡ startsFor (inRow (namesOf table)) slots (cutOf S .items) (zeros 11) (zeros 11))
-    × (bits ≡ bitsFor (inRow (namesOf table)) slots (cutOf S .items) (zeros 11) (zeros 11))
+pub found : (S slots starts bits : List ℕ) (stop : ℕ) → Bytes S → keysOf (inRow (namesOf table)) slots (length table) ≡ map bigOf (namesOf table)
+    → (stop ≡ cutOf S .stop) × (stop ≤ length S) × (starts ≡ startsFor (inRow (namesOf table)) slots (cutOf S .items) (zeros (length table)) (zeros (length table)))
+    × (bits ≡ bitsFor (inRow (namesOf table)) slots (cutOf S .items) (zeros (length table)) (zeros (length table)))
     → (_≡_ {A = Passed} (record { spots = record { start = starts; bits = bits }; stop = stop }) (passedOf (cutOf S))) × (stop ≤ length S)
 unfolding passedOf spotsOf
 found S slots starts bits stop sb keys h =

@@ -1,14 +1,14 @@
 -- Values written row by row: the bytes of the packet. Assumes nothing.
 use Prim.Native.Nat.{ℕ, zero, suc, _+_, _*_, _≤_, _<_}
-use mathlib.Core.Bool.{Bool, true, false, _&&_, _||_}
+use mathlib.Core.Bool.{true, false, _||_}
 use mathlib.Core.Path.{_≡_, refl, sym, ap, ap₂, _∙_}
 use mathlib.Core.List.{List, [], _∷_, _++_, append-assoc, append-nil}
 use native.Mathlib.Nat.{add-zero}
 use native.Mathlib.Omega.{arith}
 use borrow.Author.Tests.{ltb-false, eqb-true}
 use lib.Dec.{eqb, ltb, lit≤, lit<}
-use lib.ListN.{length, getD, drop, length-append, length-drop}
-use lib.Seq.{drop-nil, drop-drop}
+use lib.ListN.{length, getD, drop, length-append}
+use lib.Seq.{drop-drop}
 use Rattle.laws.specs.Big.{bytesOf}
 use Rattle.laws.specs.Limits.{longest}
 use Rattle.laws.specs.Written.{written}
@@ -20,7 +20,6 @@ use Rattle.items.proofs.Joins.{joined-kept}
 use Rattle.description.specs.Bytes as described
 use Rattle.fac.specs.Channel.{facBytes}
 use Rattle.fac.proofs.Back as channel
-use Rattle.sdc.specs.Block.{sdcBytes}
 use Rattle.record.specs.declared.Record.{Record}
 use Rattle.mdi_spots.specs.Table.{table, namesOf, nameOf}
 use Rattle.mdi_write.specs.Packet.{Streams, entry, entries, timeBytes, headValues, streamValues, valuesOf, itemsOf, packetOf}

@@ -1,5 +1,5 @@
 -- Why a packet is not written, and what the writer answers, by the way taken through its tests. Assumes nothing.
-use Prim.Native.Nat.{ℕ, _+_, _≤_, _<_}
+use Prim.Native.Nat.{ℕ, _≤_, _<_}
 use mathlib.Core.Bool.{Bool, true, false, not, _||_, _&&_}
 use mathlib.Core.Path.{_≡_, refl, sym, ap, _∙_}
 use mathlib.Core.List.{List}
@@ -11,14 +11,10 @@ use Rattle.laws.specs.Refuse.{refusedWith}
 use Rattle.laws.specs.Written.{written}
 use Rattle.laws.proofs.Flags.{or-false}
 use Rattle.laws.proofs.Refuse.{free}
-use Rattle.description.specs.declared.Description.{Description}
 use Rattle.description.specs.WellFormed as described
-use Rattle.fac.specs.declared.Fac.{Fac}
 use Rattle.fac.specs.Channel as fast
-use Rattle.sdc.specs.declared.Sdc.{Sdc}
 use Rattle.sdc.specs.Block as block
 use Rattle.record.specs.declared.Record.{Record}
-use Rattle.record.specs.declared.Time.{Time}
 use Rattle.mdi_write.specs.Packet.{Streams, packetOf}
 use Rattle.description.specs.Bytes.{saidOf}
 use Rattle.mdi_write.specs.Answers.{anyLong, badTime, tooLarge, agreed, writeTests, writeNumber, writeFor, outFor, Fits}

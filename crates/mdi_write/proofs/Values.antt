@@ -6,7 +6,7 @@ use mathlib.Core.List.{List, [], _∷_, _++_, append-assoc, append-nil}
 use native.Mathlib.Nat.{add-zero}
 use native.Mathlib.Omega.{arith}
 use borrow.Author.Tests.{eq-eqb, ne-eqb, le-ltb, ltb-false, not-false, eqb-true}
-use lib.Dec.{eqb, ltb, leb}
+use lib.Dec.{eqb, ltb}
 use lib.ListN.{length, getD, take, drop, replicate, length-append, length-replicate, drop-of-length-le}
 use lib.Seq.{take-at, length-take-le}
 use Rattle.laws.specs.Big.{bytesOf}
@@ -62,7 +62,7 @@ four-at (n ∷ ns) e (suc k) h = four-at ns (both (eqb (length n) 4) (fours ns) 
 pub name-is : (names : List ℕ) (row : ℕ) → names ≡ allNames → row < 11 → take (4 * row + 4 - 4 * row) (drop (4 * row) names) ≡ nameOf row
 name-is names row e h =
     let w : 4 * row + 4 - 4 * row ≡ 4 = omega arith in
-    ap₂ (λ (k : ℕ) (l : List ℕ). take k (drop (4 * row) l)) w e ∙ name-at (namesOf table) refl row h
+    ap₂ (λ (k : ℕ) (l : List ℕ). take k (drop (4 * row) l)) w e ∙ name-at (namesOf table) refl row (omega arith)
 
 some-bits : (n : ℕ) → (n ≡ 0 → ⊥) → 8 * n ≡ 0 → ⊥
 some-bits n h e = h (omega arith)

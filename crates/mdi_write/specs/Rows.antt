@@ -1,6 +1,6 @@
 -- What the private steps of the writer ask for and leave; no promise of a public call cites it. Assumes nothing.
-use Prim.Native.Nat.{ℕ, _+_, _*_, _≤_}
-use mathlib.Core.Bool.{Bool, false}
+use Prim.Native.Nat.{ℕ, _+_, _*_}
+use mathlib.Core.Bool.{false}
 use mathlib.Core.Path.{_≡_}
 use mathlib.Core.List.{List}
 use lib.ListN.{length, drop}
@@ -12,7 +12,6 @@ use Rattle.fac.specs.Channel as fast
 use Rattle.sdc.specs.Block.{sdcBytes}
 use Rattle.record.specs.declared.Record.{Record}
 use Rattle.mdi_write.specs.Packet.{timeBytes, entries}
-use Rattle.mdi_write.specs.Answers.{badTime}
 
 -- the names, one behind the other
 abbrev pub allNames : List ℕ

@@ -1,5 +1,5 @@
 -- `mdi_write::put_item` meets its contract. Assumes nothing.
-use mathlib.Core.Path.{_≡_, refl, ap, _∙_}
+use mathlib.Core.Path.{refl, ap, _∙_}
 use native.Mathlib.Omega.{arith}
 use Rattle.moves.specs.Moves.{placed}
 use Rattle.mdi_spots.specs.Table.{table, namesOf}
@@ -64,7 +64,8 @@ same-length c = search needs
 returns-2 : tie.Need-returns-2
 returns-2 c = let g = c .before .before .before .before .before .before .before .before .before .before .before .before .before .before .before .before .before in
     let n = name-is (g .args .names .now) (g .args .row) (g .pre .0) (g .pre .1) in
-    let f = four-at (namesOf table) refl (g .args .row) (g .pre .1) in
+    let h = g .pre .1 in
+    let f = four-at (namesOf table) refl (g .args .row) (omega arith) in
     item-some _ (g .args .value .now) (g .args .out .now) _ (c .before .before .before .before .before .before .before .before .before .before .before .before .before .if1 .left) f (g .pre .3) _ _ _
     (c .before .before .before .before .before .before .before .before .before .before .copy .ensures ∙ ap (placed (g .args .out .now) _) n) (c .before .before .before .before .before .before .write32 .ensures .1) (c .before .before .copy2 .ensures)
 

@@ -1,3 +1,0 @@
-pub mod Values
-pub mod Ways
-pub mod Settled
