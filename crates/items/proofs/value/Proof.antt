@@ -4,51 +4,37 @@ use Rattle.items.proofs.Passes.{value-out, value-in}
 use borrow.Author.Needs.{needs}
 use Rattle.items.proofs.value.Statement.{statement}
 use Rattle.items.proofs.value.Tie as tie
-use Rattle.items.proofs.value.Reads as reads
-use Rattle.items.proofs.value.Lts as lts
-use Rattle.items.proofs.bytes.Reads as bytes-reads
 
--- src/lib.rt:90:9
 bytes-requires : tie.Need-bytes-requires
 bytes-requires c κs = search needs
 
--- src/lib.rt:92:9
 slice-aggregate-result : tie.Need-slice-aggregate-result
 slice-aggregate-result c = search needs
 
--- src/lib.rt:92:9
 returns : tie.Need-returns
 returns c = value-out _ _ _ (c .before .before .bytes .ensures .0) (omega arith)
 
--- src/lib.rt:94:8
 sub-if2 : tie.Need-sub-if2
 sub-if2 c = search needs
 
--- src/lib.rt:95:9
 slice-aggregate-result-2 : tie.Need-slice-aggregate-result-2
 slice-aggregate-result-2 c = search needs
 
--- src/lib.rt:95:9
 returns-2 : tie.Need-returns-2
 returns-2 c = value-out _ _ _ (c .before .before .before .bytes .ensures .0) (omega arith)
 
--- src/lib.rt:97:15
 add-result : tie.Need-add-result
 add-result c = search needs
 
--- src/lib.rt:97:5
 sub-result : tie.Need-sub-result
 sub-result c = search needs
 
--- src/lib.rt:97:5
 part-result-start : tie.Need-part-result-start
 part-result-start c = search needs
 
--- src/lib.rt:97:5
 part-result-end : tie.Need-part-result-end
 part-result-end c = search needs
 
--- src/lib.rt:86:1
 returns-3 : tie.Need-returns-3
 returns-3 c = value-in _ _ _ (c .before .before .before .bytes .ensures .0) (omega arith)
 

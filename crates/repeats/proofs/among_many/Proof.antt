@@ -4,23 +4,16 @@ use native.Mathlib.Omega.{arith}
 use borrow.Author.Needs.{needs}
 use Rattle.repeats.proofs.among_many.Statement.{statement}
 use Rattle.repeats.proofs.among_many.Tie as tie
-use Rattle.repeats.proofs.among_many.Reads as reads
-use Rattle.repeats.proofs.among_many.Lts as lts
-use Rattle.repeats.proofs.store.Reads as store-reads
 
--- src/lib.rt:125:22
 slice-aggregate-store : tie.Need-slice-aggregate-store
 slice-aggregate-store c = search needs
 
--- src/lib.rt:125:33
 slice-aggregate-store-2 : tie.Need-slice-aggregate-store-2
 slice-aggregate-store-2 c = search needs
 
--- src/lib.rt:125:9
 store-requires : tie.Need-store-requires
 store-requires c κs = arrays-fit 8192 16384 (omega arith) (omega arith)
 
--- src/lib.rt:119:1
 returns : tie.Need-returns
 returns c = never-full _ _ (c .before .before .before .before .before .before .before .pre) (c .before .before .before .store .ensures)
 

@@ -8,12 +8,6 @@ use Prim.Native.Nat.{ℕ, _-_, _<_}
 use mathlib.Core.Path.{_≡_, refl, _∙_}
 use Rattle.repeats.proofs.store.Statement.{statement}
 use Rattle.repeats.proofs.store.Tie as tie
-use Rattle.repeats.proofs.store.Reads as reads
-use Rattle.repeats.proofs.store.Lts as lts
-use Rattle.fields.proofs.read32.Reads as read32-reads
-use Rattle.items.proofs.size_at.Reads as size-at-reads
-use Rattle.repeats.proofs.answered.Reads as answered-reads
-use Rattle.repeats.proofs.insert.Reads as insert-reads
 
 abbrev Inv-loop : tie.InvT-loop
 Inv-loop s keys₀ kids₀ n₀ at₀ keys kids n at = Seeing s keys kids (length keys₀) n at × (length kids ≡ length kids₀)
@@ -21,27 +15,21 @@ Inv-loop s keys₀ kids₀ n₀ at₀ keys kids n at = Seeing s keys kids (lengt
 abbrev μ-loop : tie.MeasureT-loop
 μ-loop s keys₀ kids₀ n₀ at₀ keys kids n at = length s - at
 
--- src/lib.rt:94:5
 loop-holds : tie.Need-loop-holds Inv-loop μ-loop
 loop-holds c = let p = c .before .before .before .pre in (seeing-none _ _ _ (p .1) (p .2), refl)
 
--- src/lib.rt:95:13
 size-at-requires : tie.Need-size-at-requires Inv-loop μ-loop
 size-at-requires c κs = search needs
 
--- src/lib.rt:97:13
 answered-requires : tie.Need-answered-requires Inv-loop μ-loop
 answered-requires c κs = search needs
 
--- src/lib.rt:97:13
 same-length : tie.Need-same-length Inv-loop μ-loop
 same-length c = c .before .before .before .loop .inv .0 .keys-long
 
--- src/lib.rt:97:13
 same-length-2 : tie.Need-same-length-2 Inv-loop μ-loop
 same-length-2 c = c .before .before .before .loop .inv .1
 
--- src/lib.rt:97:13
 returns : tie.Need-returns Inv-loop μ-loop
 returns c =
     let l = c .before .before .before in
@@ -49,19 +37,15 @@ returns c =
     let a = k .before .args in
     seen-all (a .s .now) (λ j. omega (arith, k .shared-slice-known .given j)) _ _ _ _ _ _ (l .loop .inv .0) (c .before .before .size-at .ensures) (c .before .if1 .taken) _ (c .answered .ensures)
 
--- src/lib.rt:100:13
 answered-requires-2 : tie.Need-answered-requires-2 Inv-loop μ-loop
 answered-requires-2 c κs = search needs
 
--- src/lib.rt:100:13
 same-length-3 : tie.Need-same-length-3 Inv-loop μ-loop
 same-length-3 c = c .before .before .before .before .loop .inv .0 .keys-long
 
--- src/lib.rt:100:13
 same-length-4 : tie.Need-same-length-4 Inv-loop μ-loop
 same-length-4 c = c .before .before .before .before .loop .inv .1
 
--- src/lib.rt:100:13
 returns-2 : tie.Need-returns-2 Inv-loop μ-loop
 returns-2 c =
     let e = c .before .before in
@@ -70,11 +54,9 @@ returns-2 c =
     let a = k .before .args in
     seen-full (a .s .now) (λ j. omega (arith, k .shared-slice-known .given j)) _ _ _ _ _ _ (l .loop .inv .0) (e .before .size-at .ensures) (e .if1 .left) (c .before .if2 .taken) _ (c .answered2 .ensures)
 
--- src/lib.rt:102:19
 read32-requires : tie.Need-read32-requires Inv-loop μ-loop
 read32-requires c κs = search needs
 
--- src/lib.rt:102:12
 insert-requires : tie.Need-insert-requires Inv-loop μ-loop
 insert-requires c κs =
     let r = c .before .before in
@@ -85,11 +67,9 @@ insert-requires c κs =
     let a = k .before .args in
     can-insert (a .s .now) (λ j. omega (arith, k .shared-slice-known .given j)) _ _ _ _ _ _ (l .loop .inv .0) (e .before .size-at .ensures) (e .if1 .left) _ (r .read32 .ensures) (k .before .pre .0) (e2 .if2 .left)
 
--- src/lib.rt:103:13
 answered-requires-3 : tie.Need-answered-requires-3 Inv-loop μ-loop
 answered-requires-3 c κs = search needs
 
--- src/lib.rt:103:13
 same-length-5 : tie.Need-same-length-5 Inv-loop μ-loop
 same-length-5 c =
     let i = c .before .before .before .before .before .before in
@@ -101,7 +81,6 @@ same-length-5 c =
     let a = k .before .args in
     i .insert .kept .1 .1 .0 ∙ l .loop .inv .0 .keys-long
 
--- src/lib.rt:103:13
 same-length-6 : tie.Need-same-length-6 Inv-loop μ-loop
 same-length-6 c =
     let i = c .before .before .before .before .before .before in
@@ -113,7 +92,6 @@ same-length-6 c =
     let a = k .before .args in
     i .insert .kept .1 .1 .1 .0 ∙ l .loop .inv .1
 
--- src/lib.rt:103:13
 returns-3 : tie.Need-returns-3 Inv-loop μ-loop
 returns-3 c =
     let i = c .before .before .before .before .before .before in
@@ -125,7 +103,6 @@ returns-3 c =
     let a = k .before .args in
     seen-again (a .s .now) (λ j. omega (arith, k .shared-slice-known .given j)) _ _ _ _ _ _ (l .loop .inv .0) (e .before .size-at .ensures) (e .if1 .left) _ (r .read32 .ensures) _ _ _ (i .insert .ensures) (c .before .if3 .taken) _ (c .answered3 .ensures)
 
--- src/lib.rt:105:9
 add-n : tie.Need-add-n Inv-loop μ-loop
 add-n c =
     let i = c .before .before .before .before .before in
@@ -139,7 +116,6 @@ add-n c =
     let h : l .loop .n < 8192 = g .1 in
     search needs
 
--- src/lib.rt:106:9
 add-at : tie.Need-add-at Inv-loop μ-loop
 add-at c =
     let i = c .before .before .before .before .before in
@@ -152,7 +128,6 @@ add-at c =
     let f = at-fits _ _ _ (e .before .size-at .ensures) (e .if1 .left) in
     search needs
 
--- src/lib.rt:94:5
 loop-less : tie.Need-loop-less Inv-loop μ-loop
 loop-less c =
     let i = c .before .before .before .before .before in
@@ -164,7 +139,6 @@ loop-less c =
     let a = k .before .args in
     nearer (a .s .now) (λ j. omega (arith, k .shared-slice-known .given j)) _ _ _ _ _ _ (l .loop .inv .0) (e .before .size-at .ensures) (e .if1 .left)
 
--- src/lib.rt:94:5
 loop-again : tie.Need-loop-again Inv-loop μ-loop
 loop-again c =
     let i = c .before .before .before .before .before in

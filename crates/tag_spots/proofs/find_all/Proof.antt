@@ -3,16 +3,10 @@ use Rattle.tag_spots.proofs.Walk.{left-starts, left-bits, found-starts,
 use borrow.Author.Needs.{needs}
 use Rattle.tag_spots.proofs.find_all.Statement.{statement}
 use Rattle.tag_spots.proofs.find_all.Tie as tie
-use Rattle.tag_spots.proofs.find_all.Reads as reads
-use Rattle.tag_spots.proofs.find_all.Lts as lts
-use Rattle.items.proofs.walk.Reads as walk-reads
-use Rattle.tag_spots.proofs.note_all.Reads as note-all-reads
 
--- src/lib.rt:88:13
 walk-requires : tie.Need-walk-requires
 walk-requires c κs = search needs
 
--- src/lib.rt:89:9
 returns : tie.Need-returns
 returns c =
     let t = c .before .before .before .before .before .before .before .args in
@@ -23,19 +17,15 @@ returns c =
       left-bits (t .s .now) (t .names .now) (t .slots .now) (t .starts .now) (t .bits .now) h,
     )
 
--- src/lib.rt:91:5
 note-all-requires : tie.Need-note-all-requires
 note-all-requires c κs = search needs
 
--- src/lib.rt:76:1
 same-length : tie.Need-same-length
 same-length c = search needs
 
--- src/lib.rt:76:1
 same-length-2 : tie.Need-same-length-2
 same-length-2 c = search needs
 
--- src/lib.rt:76:1
 returns-2 : tie.Need-returns-2
 returns-2 c =
     let n = c .before .before .before .before in

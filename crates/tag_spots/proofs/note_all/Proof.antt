@@ -9,11 +9,6 @@ use native.Mathlib.Omega.{arith}
 use borrow.Author.Needs.{needs}
 use Rattle.tag_spots.proofs.note_all.Statement.{statement}
 use Rattle.tag_spots.proofs.note_all.Tie as tie
-use Rattle.tag_spots.proofs.note_all.Reads as reads
-use Rattle.tag_spots.proofs.note_all.Lts as lts
-use Rattle.fields.proofs.read32.Reads as read32-reads
-use Rattle.items.proofs.size_at.Reads as size-at-reads
-use Rattle.tag_spots.proofs.note.Reads as note-reads
 
 abbrev Inv-loop : tie.InvT-loop
 Inv-loop s names slots starts₀ bits₀ at₀ starts bits at = Walking s names slots starts₀ bits₀ starts bits at
@@ -21,73 +16,60 @@ Inv-loop s names slots starts₀ bits₀ at₀ starts bits at = Walking s names 
 abbrev μ-loop : tie.MeasureT-loop
 μ-loop s names slots starts₀ bits₀ at₀ starts bits at = length s - at
 
--- src/lib.rt:63:5
 loop-holds : tie.Need-loop-holds Inv-loop μ-loop
 loop-holds c = let p = c .before .before .before .before .before in walking-first _ _ _ _ _ (p .pre)
 
--- src/lib.rt:64:13
 size-at-requires : tie.Need-size-at-requires Inv-loop μ-loop
 size-at-requires c κs = search needs
 
--- src/lib.rt:66:13
 same-length : tie.Need-same-length Inv-loop μ-loop
 same-length c =
     let l = c .before .before in
     let p = l .before .before .before .before .before .before in
     same-starts (p .args .s .now) (p .args .names .now) (p .args .slots .now) (p .args .starts .now) (p .args .bits .now) _ _ _ (l .loop .inv)
 
--- src/lib.rt:66:13
 same-length-2 : tie.Need-same-length-2 Inv-loop μ-loop
 same-length-2 c =
     let l = c .before .before in
     let p = l .before .before .before .before .before .before in
     same-bits (p .args .s .now) (p .args .names .now) (p .args .slots .now) (p .args .starts .now) (p .args .bits .now) _ _ _ (l .loop .inv) ∙ same-starts (p .args .s .now) (p .args .names .now) (p .args .slots .now) (p .args .starts .now) (p .args .bits .now) _ _ _ (l .loop .inv) ∙ sym (p .pre)
 
--- src/lib.rt:66:13
 returns : tie.Need-returns Inv-loop μ-loop
 returns c =
     let l = c .before .before in
     let p = l .before .before .before .before .before .before in
     passing-done (p .args .s .now) _ (p .args .starts .now) (p .args .bits .now) _ _ _ _ (l .loop .inv) (c .before .size-at .ensures) (c .if1 .taken)
 
--- src/lib.rt:68:13
 read32-requires : tie.Need-read32-requires Inv-loop μ-loop
 read32-requires c κs = search needs
 
--- src/lib.rt:69:38
 add-read32 : tie.Need-add-read32 Inv-loop μ-loop
 add-read32 c = let e = c .before in let f = at-fits _ _ _ (e .before .size-at .ensures) (e .if1 .left) in search needs
 
--- src/lib.rt:69:13
 read32-requires-2 : tie.Need-read32-requires-2 Inv-loop μ-loop
 read32-requires-2 c κs = search needs
 
--- src/lib.rt:70:33
 add-note : tie.Need-add-note Inv-loop μ-loop
 add-note c = let e = c .before .before in let f = at-fits _ _ _ (e .before .size-at .ensures) (e .if1 .left) in search needs
 
--- src/lib.rt:70:9
 note-requires : tie.Need-note-requires Inv-loop μ-loop
 note-requires c κs =
     let l = c .before .before .before .before .before .before in
     let p = l .before .before .before .before .before .before in
     same-bits (p .args .s .now) (p .args .names .now) (p .args .slots .now) (p .args .starts .now) (p .args .bits .now) _ _ _ (l .loop .inv)
 
--- src/lib.rt:71:9
 add-at : tie.Need-add-at Inv-loop μ-loop
 add-at c =
     let e = c .before .before .before .before .before .before .before .before .before in
     let f = at-fits _ _ _ (e .before .size-at .ensures) (e .if1 .left) in
     search needs
 
--- src/lib.rt:63:5
 loop-less : tie.Need-loop-less Inv-loop μ-loop
 loop-less c =
     let e = c .before .before .before .before .before .before .before .before .before in
     let f = at-fits _ _ _ (e .before .size-at .ensures) (e .if1 .left) in
     omega arith
 
--- src/lib.rt:63:5
 loop-again : tie.Need-loop-again Inv-loop μ-loop
 loop-again c =
     let n = c .before .before .before .before in

@@ -5,36 +5,25 @@ use native.Mathlib.Omega.{arith}
 use borrow.Author.Needs.{needs}
 use Rattle.tag_spots.proofs.row_of.Statement.{statement}
 use Rattle.tag_spots.proofs.row_of.Tie as tie
-use Rattle.tag_spots.proofs.row_of.Reads as reads
-use Rattle.tag_spots.proofs.row_of.Lts as lts
-use Rattle.fields.proofs.read32.Reads as read32-reads
-use Rattle.tag_spots.proofs.wide.Reads as wide-reads
 
--- src/lib.rt:23:9
 returns : tie.Need-returns
 returns c = let t = c .before .before .before in row-empty (t .args .names .now) (t .args .slots .now) _ _ (omega (arith, t .fits .key)) (c .if1 .taken)
 
--- src/lib.rt:25:26
 rem-wide : tie.Need-rem-wide
 rem-wide c = search needs
 
--- src/lib.rt:25:20
 shared-slice-read-wide : tie.Need-shared-slice-read-wide
 shared-slice-read-wide c = let h = c .before .if1 .left in mod-lt _ (omega (arith, h))
 
--- src/lib.rt:25:9
 wide-requires : tie.Need-wide-requires
 wide-requires c κs = search needs
 
--- src/lib.rt:27:34
 mul-read32 : tie.Need-mul-read32
 mul-read32 c = search needs
 
--- src/lib.rt:27:12
 read32-requires : tie.Need-read32-requires
 read32-requires c κs = search needs
 
--- src/lib.rt:28:13
 returns-2 : tie.Need-returns-2
 returns-2 c =
     let w = c .before .before .before in
@@ -42,7 +31,6 @@ returns-2 c =
     let t = e .before .before .before in
     row-here (t .args .names .now) (t .args .slots .now) _ _ (omega (arith, t .fits .key)) (e .if1 .left) _ (w .wide .ensures .0) _ (c .before .before .if2 .taken) (c .before .read32 .ensures) (c .if3 .taken)
 
--- src/lib.rt:18:1
 returns-3 : tie.Need-returns-3
 returns-3 c =
     let w = c .before .before .before in
@@ -50,7 +38,6 @@ returns-3 c =
     let t = e .before .before .before in
     row-other (t .args .names .now) (t .args .slots .now) _ _ (omega (arith, t .fits .key)) (e .if1 .left) _ (w .wide .ensures .0) _ (c .before .read32 .ensures) (c .if3 .left)
 
--- src/lib.rt:18:1
 returns-4 : tie.Need-returns-4
 returns-4 c =
     let w = c .before in
