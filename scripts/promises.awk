@@ -1,5 +1,5 @@
-# promises.awk: the reading behind promises.sh. It is handed the names of all edits on standard input, then docs/PROMISES.md, the files of specs/,
-# the files Settled.antt and the sources, in this order. Bytes, not characters, are looked at, so that every awk reads the same.
+# promises.awk: the reading behind promises.sh. It is handed the names of all edits on standard input, then docs/PROMISES.md, the
+# files Settled.antt and the sources, in this order. Bytes, not characters, are looked at, so that every awk reads the same.
 
 function crate_of(path) {
     sub(/^crates\//, "", path)
@@ -64,7 +64,7 @@ function read_call(    n, cell, crate, word, list, where, at) {
     }
 }
 
-# and of those without a full promise: excused[crate call], bare[crate call] where nothing at all is promised; 'all' is each call of the crates
+# and of those without a full promise: excused[crate call], bare[crate call] where nothing at all is promised
 function read_ground(    n, i, k, cell, crate, word) {
     n = split($0, cell, "|")
     if (n < 6 || cell[5] !~ /[a-z]/) return
@@ -72,7 +72,7 @@ function read_ground(    n, i, k, cell, crate, word) {
     for (i = 1; i <= k; i++) {
         gsub(/[ `]/, "", crate[i])
         name_edits(crate[i], cell[4], 0)
-        REST = cell[3] ~ /^ *all *$/ ? "`*`" : cell[3]
+        REST = cell[3]
         while ((word = quoted(REST)) != "") {
             excused[crate[i] " " plain(word)] = 1
             if (cell[4] ~ /safe and ending, no more/) bare[crate[i] " " plain(word)] = 1
@@ -84,17 +84,6 @@ FILENAME ~ /PROMISES\.md$/ {
     if (/^## /) without = /^## Calls without/
     if (/^\|/ && without) read_ground()
     else if (/^\|/) read_call()
-    next
-}
-
-# ---- specs/: defined[name]
-FILENAME ~ /\/specs\// {
-    if (/^(abbrev |unfoldable )?pub /) {
-        name = $0
-        sub(/^(abbrev |unfoldable )?pub (record |data )?/, "", name)
-        sub(/[ :].*/, "", name)
-        defined[name] = 1
-    }
     next
 }
 
@@ -129,62 +118,202 @@ reading && (/^ *\{ *$/ || (/\{ *$/ && !/^ *ensures/)) {
     judge()
 }
 
-# the definitions of specs/ in text that are no field and no parameter of the function: one word each in FOUND; status 1 if there is one
-function definitions(text,    n, i, word, any) {
-    gsub(/ \.[A-Za-z0-9_-]+/, " ", text)
-    gsub(/[^A-Za-z0-9_-]+/, " ", text)
+# ---- terms: tokens between spaces and parentheses. In a promise `now (x .entry)` is x, `now (x .exit)` is @x and the answer is @answer; in a theorem
+# a variable with the numbers behind it, `i .0`, is one token. A name loses the module before it, and parentheses around one token go.
+
+# tokens of text into term[1..]; the number of them. What each stands for is handed over in `variable` and `answer`
+function tokens(text, answer,    n, i, k, word, changed) {
+    gsub(/[()]/, " & ", text)
     n = split(text, word, " ")
-    any = 0
+    k = 0
+    split("", term)
     for (i = 1; i <= n; i++) {
-        if (!(word[i] in defined) || word[i] in given) continue
-        any = 1
-        if (index(FOUND " ", " " word[i] " ") == 0) FOUND = FOUND " " word[i]
+        if (word[i] == "now" && word[i + 1] == "(" && word[i + 3] ~ /^\.(entry|exit)$/ && word[i + 4] == ")") {
+            term[++k] = (word[i + 3] == ".exit" ? "@" : "") word[i + 2]
+            i += 4
+        } else if (word[i] == "now") continue
+        else if (word[i] == answer) term[++k] = "@answer"
+        else if (k > 0 && word[i] ~ /^\.[0-9]+$/ && is_variable(term[k])) term[k] = term[k] word[i]
+        else {
+            sub(/^[a-z]+\./, "", word[i])
+            term[++k] = word[i]
+        }
     }
-    return any
+    do {
+        changed = 0
+        n = k
+        k = 0
+        for (i = 1; i <= n; i++) {
+            if (term[i] == "(" && i + 2 <= n && term[i + 2] == ")" && term[i + 1] != "(") {
+                term[++k] = term[i + 1]
+                i += 2
+                changed = 1
+            } else term[++k] = term[i]
+        }
+    } while (changed)
+    return k
 }
 
-# a part of a promise: an equation on the answer or on a lent place settles it, and so does a definition that it is handed to
-function part(text, answer,    place, rest) {
-    sub(/^[ (]+/, "", text)
-    rest = text
-    if (index(rest, answer " ≡ ") == 1 || index(rest, "now " answer " ≡ ") == 1) {
-        equal["answer"] = 1
-        definitions(substr(rest, index(rest, "≡")))
-        return
-    }
-    if (match(rest, /^now \([a-z_0-9]+ \.exit\) /) && index(substr(rest, RLENGTH + 1), "≡") == 1) {
-        place = substr(rest, 6, RLENGTH - 13)
-        equal[place] = 1
-        definitions(substr(rest, RLENGTH + 1))
-        return
-    }
-    others = others "\n" answer "\n" text
+function is_variable(token) {
+    sub(/\..*/, "", token)
+    return token in variable
 }
 
-function judge_parts(    i, n, k, text, answer, piece) {
-    FOUND = ""
-    others = ""
+# where the parenthesis at `at` closes
+function closing(at, n,    i, depth) {
+    for (i = at; i <= n; i++) {
+        if (term[i] == "(") depth++
+        if (term[i] == ")" && --depth == 0) return i
+    }
+    return n
+}
+
+# the parts of term[from..to], joined by ×, each one line of PARTS
+function split_parts(from, to,    i, depth, last, arrow) {
+    while (term[from] == "(" && closing(from, to) == to) {
+        from++
+        to--
+    }
+    last = 0
+    for (i = from; i <= to; i++) {
+        if (term[i] == "(") depth++
+        if (term[i] == ")") depth--
+        if (depth == 0 && term[i] == "→") arrow = 1
+        if (depth == 0 && term[i] == "×" && !last) last = i
+    }
+    if (last && !arrow) {
+        split_parts(from, last - 1)
+        split_parts(last + 1, to)
+        return
+    }
+    for (i = from; i <= to; i++) PARTS = PARTS (i > from ? " " : "") term[i]
+    PARTS = PARTS "\n"
+}
+
+# the promise: promise[1..promises]
+function read_promise(    i, n, text, answer) {
+    PARTS = ""
+    split("", variable)
     for (i = 1; i <= clauses; i++) {
         text = clause[i]
         answer = text
-        sub(/^[^\{]*\{ *λ */, "", answer)
+        sub(/^[^{]*\{ *λ */, "", answer)
         sub(/\..*/, "", answer)
         sub(/^.*⌜ */, "", text)
         sub(/ *⌝.*/, "", text)
-        n = split(text, piece, " × ")
-        for (k = 1; k <= n; k++) part(piece[k], answer)
+        n = tokens(text, answer)
+        split_parts(1, n)
+    }
+    promises = split(PARTS, promise, "\n") - 1
+}
+
+# a theorem: law[1..laws], variable[], and `outcome`, the variable of what is settled; 0 where it is no theorem `Settles ..`
+function read_theorem(text,    n, i, k, colon) {
+    split("", variable)
+    outcome = ""
+    laws = 0
+    n = tokens(text, "")
+    for (i = 1; i <= n && term[i] != "Settles"; i++) if (term[i] == "(") i = bind(i, n)
+    if (term[i] != "Settles") return 0
+    if (term[i + 1] != "(") {
+        variable["i"] = variable["o"] = 1
+        outcome = "o"
+        law[++laws] = term[i + 1] " i o"
+        return 1
+    }
+    k = closing(i + 1, n)
+    for (i += 3; i < k && term[i] != "."; i++) if (term[i] == "(") i = bind(i, k)
+    text = ""
+    for (i++; i < k; i++) text = text " " term[i]
+    n = tokens(text, "")
+    PARTS = ""
+    split_parts(1, n)
+    laws = split(PARTS, law, "\n") - 1
+    return 1
+}
+
+# the names of a binder (a b : T); the last is kept as the outcome
+function bind(at, n,    i) {
+    for (i = at + 1; i <= n && term[i] != ":"; i++) {
+        variable[term[i]] = 1
+        outcome = term[i]
+    }
+    return closing(at, n)
+}
+
+# whether a part of a theorem is a part of the promise, each variable standing for one token or one group in parentheses, the same all through.
+# An outcome stands for the answer or for what is behind a loan, and for no two of them; another variable for nothing of the kind.
+function matches(pattern, text,    p, t, np, nt, i, k, word, depth) {
+    np = split(pattern, p, " ")
+    nt = split(text, t, " ")
+    k = 1
+    for (i = 1; i <= np; i++) {
+        if (k > nt) return 0
+        if (!is_variable(p[i])) {
+            if (p[i] != t[k]) return 0
+            k++
+            continue
+        }
+        word = t[k]
+        depth = (word == "(")
+        while (depth > 0 && k < nt) {
+            k++
+            word = word " " t[k]
+            depth += (t[k] == "(") - (t[k] == ")")
+        }
+        k++
+        if (word == ")" || !stands(p[i], word)) return 0
+    }
+    return k == nt + 1
+}
+
+function stands(name, word,    base, other) {
+    if (name in meaning) return meaning[name] == word
+    base = name
+    sub(/\..*/, "", base)
+    if (base == outcome) {
+        if (word !~ /^@[a-z_0-9]+$/) return 0
+        for (other in meaning) if (meaning[other] == word) return 0
+    } else if (word ~ /@/) return 0
+    meaning[name] = word
+    order[++bound_names] = name
+    return 1
+}
+
+# all ways in which the parts of a theorem from k on are parts of the promise: settled[..] gets what each settles
+function search_from(k,    j, name, mark) {
+    if (k > laws) {
+        for (name in meaning) if (meaning[name] ~ /^@/) settled[substr(meaning[name], 2)] = 1
+        return
+    }
+    for (j = 1; j <= promises; j++) {
+        if (used[j]) continue
+        mark = bound_names
+        used[j] = 1
+        if (matches(law[k], promise[j])) search_from(k + 1)
+        used[j] = 0
+        while (bound_names > mark) delete meaning[order[bound_names--]]
     }
 }
 
-# what no equation settles, the other parts may, where they name a definition
-function judge_others(place,    n, i, piece, found) {
-    n = split(others, piece, "\n")
-    found = 0
-    for (i = 2; i + 1 <= n; i += 2) {
-        if (place == "answer" ? (" " piece[i + 1] " ") !~ ("[ (]" piece[i] "[ )]") : index(piece[i + 1], place " .exit") == 0) continue
-        if (definitions(piece[i + 1])) found = 1
+# what the theorems of a row settle of the call: settled[..]
+function settle(at,    n, i, list, s) {
+    split("", settled)
+    read_promise()
+    n = split(theorems[at], list, " ")
+    for (i = 1; i <= n; i++) {
+        s = home[at] " " list[i]
+        if (!(s in statement) || !read_theorem(statement[s])) continue
+        split("", meaning)
+        split("", used)
+        bound_names = 0
+        search_from(1)
     }
-    return found
+}
+
+function missing(at) {
+    print "docs/PROMISES.md: there is no public function " at
+    failed++
 }
 
 function fault(what) {
@@ -192,20 +321,7 @@ function fault(what) {
     faults++
 }
 
-function has_theorem(at,    n, i, k, m, list, need, all, s) {
-    n = split(theorems[at], list, " ")
-    m = split(FOUND, need, " ")
-    for (i = 1; i <= n; i++) {
-        s = home[at] " " list[i]
-        if (!(s in statement) || statement[s] !~ /Settles/) continue
-        all = 1
-        for (k = 1; k <= m; k++) if (statement[s] !~ ("(^|[^A-Za-z0-9_-])" need[k] "([^A-Za-z0-9_-]|$)")) all = 0
-        if (all) return 1
-    }
-    return 0
-}
-
-function judge(    name, params, n, i, word, at, all, lent, places) {
+function judge(    name, params, n, i, word, at, lent, places) {
     faults = 0
     call = head
     sub(/^ *pub (extern "C" )?fn /, "", call)
@@ -214,8 +330,6 @@ function judge(    name, params, n, i, word, at, all, lent, places) {
     name = call
     sub(/^[^(]*\(/, "", params)
     at = crate_of(file) " " name
-    split("", given)
-    split("", equal)
     places = 0
     n = split(params, word, /[,()]/)
     for (i = 1; i <= n; i++) {
@@ -223,27 +337,25 @@ function judge(    name, params, n, i, word, at, all, lent, places) {
         lent = word[i]
         sub(/:.*/, "", lent)
         gsub(/ /, "", lent)
-        given[lent] = 1
         if (word[i] ~ /&(\047[a-z]+ )?mut /) place_of[++places] = lent
     }
-    all = crate_of(file) " *"
-    if (all in excused) excused[at] = 1
-    if (all in bare) bare[at] = 1
+    seen[at] = 1
     if (clauses == 0 && !(at in bare)) fault("has no `ensures`")
     if (bound) fault("has a `requires`")
     if (!(at in row) && !(at in excused)) fault("is not in docs/PROMISES.md")
-    if (clauses > 0 && !(at in excused)) {
-        judge_parts()
-        if (head ~ /->/ && !("answer" in equal) && !judge_others("answer")) fault("no `ensures` settles its answer")
+    if (clauses > 0 && at in row) {
+        settle(at)
+        if (head ~ /->/ && !("answer" in settled)) fault("no theorem of its row, in crates/" home[at] "/proofs/Settled.antt, settles its answer by its own promise")
         for (i = 1; i <= places; i++)
-            if (!(place_of[i] in equal) && !judge_others(place_of[i])) fault("no `ensures` settles `" place_of[i] "`, which is lent by `&mut`")
-        if (at in row && !has_theorem(at)) fault("its row names no theorem of crates/" home[at] "/proofs/Settled.antt that is about" FOUND)
+            if (!(place_of[i] in settled)) fault("no theorem of its row, in crates/" home[at] "/proofs/Settled.antt, settles `" place_of[i] "`, which is lent by `&mut`, by its own promise")
     }
     if (faults) failed++
     else passed++
 }
 
 END {
+    for (at in row) if (!(at in seen)) missing(at)
+    for (at in excused) if (!(at in seen)) missing(at)
     for (path in edit) {
         if (path in named) continue
         print path ": no row of docs/PROMISES.md names it"
