@@ -29,7 +29,7 @@ pub(crate) fn write(body: &[u8], one: &mut [u8], out: &mut [u8]) -> usize {
             case::byte(body, case_values::DESCRIPTION),
             dst,
         );
-        return answer::written(out, done.number, 0, done.len as u64, dst);
+        return answer::written(out, done.number, 0, done.length as u64, dst);
     }
     answer::none(out)
 }
@@ -56,7 +56,7 @@ pub(crate) fn write_entity(body: &[u8], one: &mut [u8], out: &mut [u8]) -> usize
             case::byte(body, case_values::DESCRIPTION + 1),
             dst,
         );
-        return answer::written(out, done.number, 0, done.len as u64, dst);
+        return answer::written(out, done.number, 0, done.length as u64, dst);
     }
     answer::none(out)
 }

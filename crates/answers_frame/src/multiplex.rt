@@ -38,7 +38,7 @@ fn written(
         s3,
         dst,
     );
-    answer::written(out, done.number, 0, done.len as u64, dst)
+    answer::written(out, done.number, 0, done.length as u64, dst)
 }
 
 fn built(

@@ -7,7 +7,7 @@ use Rattle.laws.specs.Refuse.{refusedWith}
 use Rattle.laws.proofs.Settle.{settled, settled-both}
 use Rattle.clock.specs.declared.Stamp.{Stamp}
 use Rattle.clock.specs.Stamps.{fieldTests, encodedFor, outputFor, decodedFor}
-use Rattle.clock.specs.declared.Encoded.{Encoded}
+use Rattle.moves.specs.declared.Wrote.{Wrote}
 use Rattle.clock.specs.declared.Given.{Given}
 use Rattle.clock.specs.Next.{nextFor}
 use Rattle.clock.specs.declared.Verdict.{Verdict}
@@ -17,7 +17,7 @@ use Rattle.clock.specs.Follows.{followsFor}
 pub check : Settles (λ (t : Stamp) (r : ℕ). r ≡ refusedWith (fieldTests t))
 check = settled (λ t. refusedWith (fieldTests t))
 
-pub encode : Settles (λ (i : Stamp × List ℕ) (o : Encoded × List ℕ). (o .0 ≡ encodedFor (i .0) (i .1)) × (o .1 ≡ outputFor (i .0) (i .1)))
+pub encode : Settles (λ (i : Stamp × List ℕ) (o : Wrote × List ℕ). (o .0 ≡ encodedFor (i .0) (i .1)) × (o .1 ≡ outputFor (i .0) (i .1)))
 encode = settled-both (λ i. encodedFor (i .0) (i .1)) (λ i. outputFor (i .0) (i .1))
 
 pub decode : Settles (λ (value : List ℕ) (r : Given). r ≡ decodedFor value)

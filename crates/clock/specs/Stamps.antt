@@ -11,7 +11,8 @@ use Rattle.laws.specs.Pick.{pick}
 use Rattle.laws.specs.Refuse.{Test, test, refusedWith}
 use Rattle.laws.specs.Written.{written}
 use Rattle.clock.specs.declared.Stamp.{Stamp}
-use Rattle.clock.specs.declared.Encoded.{Encoded}
+use Rattle.moves.specs.declared.Wrote.{Wrote}
+use Rattle.moves.specs.Wrote.{wroteOf}
 use Rattle.clock.specs.declared.Given.{Given}
 
 -- the item's fields, in its order
@@ -54,8 +55,8 @@ encodeTests t out = fieldTests t ++ (test (ltb (length out) 8) 1 ∷ [])
 unfoldable pub encodeNumber : Stamp → List ℕ → ℕ
 encodeNumber t out = refusedWith (encodeTests t out)
 
-unfoldable pub encodedFor : Stamp → List ℕ → Encoded
-encodedFor t out = let n = encodeNumber t out in record { number = n; length = pick (eqb n 0) 8 0 }
+unfoldable pub encodedFor : Stamp → List ℕ → Wrote
+encodedFor t out = wroteOf (encodeNumber t out) 8
 
 -- the output after the call
 unfoldable pub outputFor : Stamp → List ℕ → List ℕ

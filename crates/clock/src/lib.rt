@@ -1,4 +1,5 @@
 // Timestamps of MDI packets (01, "Clock and recordings" and the item `tist`; 002, 5.2.2): as 8 bytes and back, the next one, and which follows which.
+use moves::Wrote;
 ghost use mathlib.Core.Path.{_≡_};
 ghost use Prim.Native.Nat.{_<_, _^_};
 ghost use Rattle.laws.specs.Refuse.{refusedWith};
@@ -11,12 +12,6 @@ pub struct Stamp {
     pub utco: u16,
     pub seconds: u64,
     pub milliseconds: u16,
-}
-
-// The answer of a call that writes: `length` bytes of the output are written.
-pub struct Encoded {
-    pub number: u32,
-    pub length: usize,
 }
 
 // The answer of a call that gives a timestamp: all zeros where it refuses.
@@ -47,22 +42,22 @@ pub fn check(t: Stamp) -> u32
 }
 
 // Writes the timestamp to the front of the output.
-pub fn encode(t: Stamp, out: &mut [u8]) -> Encoded
+pub fn encode(t: Stamp, out: &mut [u8]) -> Wrote
     ensures answer { λ r. ⌜ r ≡ encodedFor t (now (out .entry)) ⌝ }
     ensures memory { λ _. ⌜ now (out .exit) ≡ outputFor t (now (out .entry)) ⌝ }
 {
     let number = check(t);
     if number != 0 {
-        return Encoded { number, length: 0 };
+        return Wrote { number, length: 0 };
     }
     if out.len() < 8 {
-        return Encoded {
+        return Wrote {
             number: 1,
             length: 0,
         };
     }
     fields::write64(out, 0, bits_of(t));
-    Encoded {
+    Wrote {
         number: 0,
         length: 8,
     }

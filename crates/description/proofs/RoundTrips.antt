@@ -80,7 +80,7 @@ front out xs n e = take-at xs (drop (0 + length xs) out) n e
 
 -- read of write
 pub read-write : (d : Description) (mode : ℕ) (out : List ℕ) → length (d .stream) ≡ 4 → writeFor d mode out .number ≡ 0
-    → readFor (take (writeFor d mode out .len) (outputFor d mode out)) mode ≡ record { number = 0; description = d }
+    → readFor (take (writeFor d mode out .length) (outputFor d mode out)) mode ≡ record { number = 0; description = d }
 unfolding writeFor outputFor writeTests readFor readTests
 read-write d mode out four e =
     let s = sound false d mode (valueSize d) (length out) e in
@@ -148,7 +148,7 @@ module _ (long head : Bool) (v : List ℕ) (mode : ℕ) (e : refusedWith (readin
 
 -- write of read: the value again, its reserved bits 0
 pub write-read : (v : List ℕ) (mode : ℕ) (out : List ℕ) → Bytes v → readFor v mode .number ≡ 0 → length v ≤ length out
-    → (writeFor (readFor v mode .description) mode out ≡ record { number = 0; len = length v })
+    → (writeFor (readFor v mode .description) mode out ≡ record { number = 0; length = length v })
     × (outputFor (readFor v mode .description) mode out ≡ written out 0 (getD v 0 0 % 16 ∷ drop 1 v))
 unfolding writeFor outputFor writeTests readFor readTests
 write-read v mode out b e h =
@@ -156,7 +156,7 @@ write-read v mode out b e h =
     let n = full l false v mode e in
     let z : refusedWith (writingTests false (describedBy v) mode (valueSize (describedBy v)) (length out)) ≡ 0 =
     writable l false v mode e (valueSize (describedBy v)) (length out) (omega arith) in
-    rw (e, z) (ap (λ (k : ℕ). record { number = 0; len = k }) n, ap (written out 0) (again l false v mode e b))
+    rw (e, z) (ap (λ (k : ℕ). record { number = 0; length = k }) n, ap (written out 0) (again l false v mode e b))
 
 -- an entity
 module _ (version : ℕ) (d : Description) (small : version ≤ 1) (most : d .count ≤ 4) where
@@ -198,7 +198,7 @@ module _ (version : ℕ) (d : Description) (mode size room : ℕ) (four : length
 
 -- read of write: the version is kept
 pub read-write-entity : (version : ℕ) (d : Description) (mode : ℕ) (out : List ℕ) → length (d .stream) ≡ 4 → writeEntityFor version d mode out .number ≡ 0
-    → readEntityFor (take (writeEntityFor version d mode out .len) (entityOutputFor version d mode out)) mode
+    → readEntityFor (take (writeEntityFor version d mode out .length) (entityOutputFor version d mode out)) mode
     ≡ record { number = 0; version = version; description = d }
 unfolding writeEntityFor entityOutputFor writeEntityTests readEntityFor readEntityTests
 read-write-entity version d mode out four e =
@@ -261,7 +261,7 @@ entity-again (x ∷ y ∷ u) mode b e = joined x y u b (head-right (x ∷ y ∷ 
 
 -- write of read: the entity again
 pub write-read-entity : (s : List ℕ) (mode : ℕ) (out : List ℕ) → Bytes s → readEntityFor s mode .number ≡ 0 → length s ≤ length out
-    → (writeEntityFor (readEntityFor s mode .version) (readEntityFor s mode .description) mode out ≡ record { number = 0; len = length s })
+    → (writeEntityFor (readEntityFor s mode .version) (readEntityFor s mode .description) mode out ≡ record { number = 0; length = length s })
     × (entityOutputFor (readEntityFor s mode .version) (readEntityFor s mode .description) mode out ≡ written out 0 s)
 unfolding writeEntityFor entityOutputFor writeEntityTests readEntityFor readEntityTests
 write-read-entity s mode out b e h =
@@ -273,4 +273,4 @@ write-read-entity s mode out b e h =
     let x : ltb 1 (versionIn s) ≡ false = le-ltb 1 (versionIn s) (omega arith) in
     let z : refusedWith (writingTests false (describedBy v) mode (1 + valueSize (describedBy v)) (length out)) ≡ 0 =
     writable l (wrongHead s) v mode e (1 + valueSize (describedBy v)) (length out) (omega arith) in
-    rw (e, x, z) (ap (λ (k : ℕ). record { number = 0; len = k }) m, ap (written out 0) (entity-again s mode b e))
+    rw (e, x, z) (ap (λ (k : ℕ). record { number = 0; length = k }) m, ap (written out 0) (entity-again s mode b e))

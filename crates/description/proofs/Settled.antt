@@ -10,7 +10,7 @@ use Rattle.description.specs.Answers.{readFor, readEntityFor, outputFor,
 use Rattle.description.specs.declared.Described.{Described}
 use Rattle.description.specs.declared.Entity.{Entity}
 use Rattle.description.specs.declared.Description.{Description}
-use Rattle.description.specs.declared.Written.{Written}
+use Rattle.moves.specs.declared.Wrote.{Wrote}
 use Rattle.description.specs.Bytes.{describedBy}
 use Rattle.description.specs.WellFormed.{tooLarge, illFormed}
 
@@ -22,11 +22,11 @@ pub read-entity : Settles (λ (i : List ℕ × ℕ) (r : Entity). r ≡ readEnti
 read-entity = settled (λ i. readEntityFor (i .0) (i .1))
 
 -- an input is the description, the MSC mode and the output before the call, and first the version
-pub write : Settles (λ (i : Description × ℕ × List ℕ) (o : Written × List ℕ).
+pub write : Settles (λ (i : Description × ℕ × List ℕ) (o : Wrote × List ℕ).
     (o .0 ≡ writeFor (i .0) (i .1) (i .2)) × (o .1 ≡ outputFor (i .0) (i .1) (i .2)))
 write = settled-both (λ i. writeFor (i .0) (i .1) (i .2)) (λ i. outputFor (i .0) (i .1) (i .2))
 
-pub write-entity : Settles (λ (i : ℕ × Description × ℕ × List ℕ) (o : Written × List ℕ).
+pub write-entity : Settles (λ (i : ℕ × Description × ℕ × List ℕ) (o : Wrote × List ℕ).
     (o .0 ≡ writeEntityFor (i .0) (i .1) (i .2) (i .3)) × (o .1 ≡ entityOutputFor (i .0) (i .1) (i .2) (i .3)))
 write-entity = settled-both (λ i. writeEntityFor (i .0) (i .1) (i .2) (i .3)) (λ i. entityOutputFor (i .0) (i .1) (i .2) (i .3))
 

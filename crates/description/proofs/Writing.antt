@@ -135,24 +135,24 @@ module _ (d : Description) (mode n : ℕ) (out : List ℕ) (e : n ≡ refusedWit
   unfolding writeTests
   same = sym (e ∙ ap (λ (k : ℕ). refusedWith (writingTests false d mode k (length out))) (zero-add (valueSize d)))
 
-  pub write-refused : (n ≡ 0 → ⊥) → (record { number = n; len = 0 } ≡ writeFor d mode out) × (out ≡ outputFor d mode out)
+  pub write-refused : (n ≡ 0 → ⊥) → (record { number = n; length = 0 } ≡ writeFor d mode out) × (out ≡ outputFor d mode out)
   unfolding writeFor outputFor
   write-refused z = rw (same, ne-eqb n 0 z) (refl, refl)
 
   pub write-done : n ≡ 0 → (r : List ℕ) → r ≡ written out 0 (valueOf d)
-      → (record { number = 0; len = 1 + 3 * d .count } ≡ writeFor d mode out) × (r ≡ outputFor d mode out)
+      → (record { number = 0; length = 1 + 3 * d .count } ≡ writeFor d mode out) × (r ≡ outputFor d mode out)
   unfolding writeFor outputFor
   write-done z r h = rw (same, z) (refl, h)
 
 module _ (version : ℕ) (d : Description) (mode n : ℕ) (out : List ℕ)
     (e : n ≡ refusedWith (writingTests (ltb 1 version) d mode (1 + valueSize d) (length out))) where
   pub entity-refused : (n ≡ 0 → ⊥)
-      → (record { number = n; len = 0 } ≡ writeEntityFor version d mode out) × (out ≡ entityOutputFor version d mode out)
+      → (record { number = n; length = 0 } ≡ writeEntityFor version d mode out) × (out ≡ entityOutputFor version d mode out)
   unfolding writeEntityFor entityOutputFor writeEntityTests
   entity-refused z = rw (← e, ne-eqb n 0 z) (refl, refl)
 
   pub entity-done : n ≡ 0 → (r : List ℕ) → r ≡ written (set out 0 (6 * d .count + version)) 1 (valueOf d)
-      → (record { number = 0; len = 1 + (1 + 3 * d .count) } ≡ writeEntityFor version d mode out) × (r ≡ entityOutputFor version d mode out)
+      → (record { number = 0; length = 1 + (1 + 3 * d .count) } ≡ writeEntityFor version d mode out) × (r ≡ entityOutputFor version d mode out)
   unfolding writeEntityFor entityOutputFor writeEntityTests entityOf bytesOf
   entity-done z r h =
       let w = writable (ltb 1 version) d mode (1 + valueSize d) (length out) n e z in

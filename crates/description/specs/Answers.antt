@@ -11,7 +11,8 @@ use Rattle.laws.specs.Written.{written}
 use Rattle.description.specs.declared.Description.{Description}
 use Rattle.description.specs.declared.Described.{Described}
 use Rattle.description.specs.declared.Entity.{Entity}
-use Rattle.description.specs.declared.Written.{Written}
+use Rattle.moves.specs.declared.Wrote.{Wrote}
+use Rattle.moves.specs.Wrote.{wroteOf}
 use Rattle.description.specs.Bytes.{headBits, levelBits, fieldsIn, valueOf, entityOf, nothing, describedBy}
 use Rattle.description.specs.WellFormed.{tooLarge, illFormed}
 
@@ -83,16 +84,12 @@ handed large d mode rest =
 unfoldable pub writingTests : Bool → Description → ℕ → ℕ → ℕ → List Test
 writingTests large d mode size room = handed large d mode (test (ltb room size) 1 ∷ [])
 
--- the number, and the bytes written
-abbrev pub written-or : ℕ → ℕ → Written
-written-or number size = record { number = number; len = pick (eqb number 0) size 0 }
-
 -- a value
 unfoldable pub writeTests : Description → ℕ → List ℕ → List Test
 writeTests d mode out = writingTests false d mode (valueSize d) (length out)
 
-unfoldable pub writeFor : Description → ℕ → List ℕ → Written
-writeFor d mode out = written-or (refusedWith (writeTests d mode out)) (valueSize d)
+unfoldable pub writeFor : Description → ℕ → List ℕ → Wrote
+writeFor d mode out = wroteOf (refusedWith (writeTests d mode out)) (valueSize d)
 
 unfoldable pub outputFor : Description → ℕ → List ℕ → List ℕ
 outputFor d mode out = pick (eqb (refusedWith (writeTests d mode out)) 0) (written out 0 (valueOf d)) out
@@ -101,8 +98,8 @@ outputFor d mode out = pick (eqb (refusedWith (writeTests d mode out)) 0) (writt
 unfoldable pub writeEntityTests : ℕ → Description → ℕ → List ℕ → List Test
 writeEntityTests version d mode out = writingTests (ltb 1 version) d mode (1 + valueSize d) (length out)
 
-unfoldable pub writeEntityFor : ℕ → Description → ℕ → List ℕ → Written
-writeEntityFor version d mode out = written-or (refusedWith (writeEntityTests version d mode out)) (1 + valueSize d)
+unfoldable pub writeEntityFor : ℕ → Description → ℕ → List ℕ → Wrote
+writeEntityFor version d mode out = wroteOf (refusedWith (writeEntityTests version d mode out)) (1 + valueSize d)
 
 unfoldable pub entityOutputFor : ℕ → Description → ℕ → List ℕ → List ℕ
 entityOutputFor version d mode out =

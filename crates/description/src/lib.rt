@@ -1,4 +1,5 @@
 // The description of the streams (01, "The description and the frame it cuts"): the `sdci` value and the type 0 entity, read and written.
+use moves::Wrote;
 ghost use mathlib.Core.Path.{_≡_};
 ghost use mathlib.Core.List.{[]};
 ghost use mathlib.Core.Bool.{_||_, _&&_, not};
@@ -42,12 +43,6 @@ pub struct Entity {
     pub number: u32,
     pub version: u8,
     pub description: Description,
-}
-
-// Number 0: len bytes are written.
-pub struct Written {
-    pub number: u32,
-    pub len: usize,
 }
 
 fn none() -> Lengths
@@ -335,34 +330,34 @@ fn put_value(d: Description, out: &mut [u8], at: usize)
 }
 
 // Writes the `sdci` value to the front of the output. Refused with 6, 9, 10, 1.
-pub fn write(d: Description, mode: u8, out: &mut [u8]) -> Written
+pub fn write(d: Description, mode: u8, out: &mut [u8]) -> Wrote
     ensures answer { λ r. ⌜ r ≡ writeFor d mode (now (out .entry)) ⌝ }
     ensures memory { λ _. ⌜ now (out .exit) ≡ outputFor d mode (now (out .entry)) ⌝ }
 {
     let number = write_number(false, d, mode, 0, out.len());
     if number != 0 {
-        return Written { number, len: 0 };
+        return Wrote { number, length: 0 };
     }
     put_value(d, out, 0);
-    Written {
+    Wrote {
         number: 0,
-        len: 1 + 3 * d.count,
+        length: 1 + 3 * d.count,
     }
 }
 
 // Writes the type 0 entity to the front of the output; version 1 is the next configuration. Refused with 6, 9, 10, 1.
-pub fn write_entity(version: u8, d: Description, mode: u8, out: &mut [u8]) -> Written
+pub fn write_entity(version: u8, d: Description, mode: u8, out: &mut [u8]) -> Wrote
     ensures answer { λ r. ⌜ r ≡ writeEntityFor version d mode (now (out .entry)) ⌝ }
     ensures memory { λ _. ⌜ now (out .exit) ≡ entityOutputFor version d mode (now (out .entry)) ⌝ }
 {
     let number = write_number(1 < version, d, mode, 1, out.len());
     if number != 0 {
-        return Written { number, len: 0 };
+        return Wrote { number, length: 0 };
     }
     out[0] = (6 * d.count) as u8 + version;
     put_value(d, out, 1);
-    Written {
+    Wrote {
         number: 0,
-        len: 1 + (1 + 3 * d.count),
+        length: 1 + (1 + 3 * d.count),
     }
 }

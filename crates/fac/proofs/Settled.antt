@@ -9,7 +9,7 @@ use Rattle.laws.proofs.Settle.{settled, settled-both}
 use Rattle.fac.specs.Answers.{readFor, outFor, writeFor}
 use Rattle.fac.specs.declared.Fac.{Fac}
 use Rattle.fac.specs.declared.Given.{Given}
-use Rattle.fac.specs.declared.Wrote.{Wrote}
+use Rattle.moves.specs.declared.Wrote.{Wrote}
 use Rattle.fac.specs.Channel.{facOf, sealed, tooLarge, notServed}
 
 pub read : Settles (λ (v : List ℕ) (r : Given). r ≡ readFor v)

@@ -10,7 +10,8 @@ use Rattle.laws.specs.Refuse.{Test, test, refusedWith}
 use Rattle.laws.specs.Written.{written}
 use Rattle.fac.specs.declared.Fac.{Fac}
 use Rattle.fac.specs.declared.Given.{Given}
-use Rattle.fac.specs.declared.Wrote.{Wrote}
+use Rattle.moves.specs.declared.Wrote.{Wrote}
+use Rattle.moves.specs.Wrote.{wroteOf}
 use Rattle.fac.specs.Channel.{fromFields, facBytes, facOf, sealed, tooLarge, notServed}
 
 -- ---- reading a value
@@ -40,7 +41,7 @@ unfoldable pub writeNumber : Fac → ℕ → ℕ
 writeNumber f room = refusedWith (writeTests f room)
 
 unfoldable pub writeFor : Fac → ℕ → Wrote
-writeFor f room = record { number = writeNumber f room; length = pick (eqb (writeNumber f room) 0) 9 0 }
+writeFor f room = wroteOf (writeNumber f room) 9
 
 -- the output after it
 unfoldable pub outFor : Fac → List ℕ → List ℕ

@@ -1,5 +1,6 @@
 // The fast access channel (01, "MDI packet", FAC; 000, 6.3): 18 fields in 64 bits with a CRC-8 behind them, read and written. All bits
 // are kept, reserved ones too.
+use moves::Wrote;
 ghost use mathlib.Core.Path.{_≡_};
 ghost use Prim.Native.Nat.{_≤_, _<_, _^_};
 ghost use lib.ListN.{length, take, drop};
@@ -35,12 +36,6 @@ pub struct Fac {
 pub struct Given {
     pub number: u32,
     pub fac: Fac,
-}
-
-// The answer of a call that writes: `length` bytes of the output are written.
-pub struct Wrote {
-    pub number: u32,
-    pub length: usize,
 }
 
 // The fields of 64 bits: the widths are 1 2 1 3 1 2 1 4 3 2 24 2 1 4 1 5 1 6.

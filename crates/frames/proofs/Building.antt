@@ -72,7 +72,7 @@ fits d capacity l0 l1 l2 at end h k p q r t = (omega arith, omega arith)
 module _ (capacity : ℕ) (d : Description) (mode : ℕ) (s0 s1 s2 s3 out : List ℕ) (n : ℕ)
     (e : n ≡ refusedWith (buildTests capacity d mode (length s0 ∷ length s1 ∷ length s2 ∷ length s3 ∷ []) (length out))) where
   pub build-refused : (n ≡ 0 → ⊥)
-      → (record { number = n; len = 0 } ≡ buildFor capacity d mode (s0 ∷ s1 ∷ s2 ∷ s3 ∷ []) out) × (out ≡ frameFor capacity d mode (s0 ∷ s1 ∷ s2 ∷ s3 ∷ []) out)
+      → (record { number = n; length = 0 } ≡ buildFor capacity d mode (s0 ∷ s1 ∷ s2 ∷ s3 ∷ []) out) × (out ≡ frameFor capacity d mode (s0 ∷ s1 ∷ s2 ∷ s3 ∷ []) out)
   unfolding buildFor frameFor buildNumber
   build-refused z = rw (← e, ne-eqb n 0 z) (refl, refl)
 
@@ -80,7 +80,7 @@ module _ (capacity : ℕ) (d : Description) (mode : ℕ) (s0 s1 s2 s3 out : List
       → (at ≡ allA d) × Puts out 0 (joined (partsA (d .stream) (s0 ∷ s1 ∷ s2 ∷ s3 ∷ []))) e1 at
       → (end ≡ at + allB d) × Puts e1 at (joined (partsB (d .stream) (s0 ∷ s1 ∷ s2 ∷ s3 ∷ []))) e2 end
       → e3 ≡ written e2 end (replicate (capacity - end) 0)
-      → (record { number = 0; len = capacity } ≡ buildFor capacity d mode (s0 ∷ s1 ∷ s2 ∷ s3 ∷ []) out)
+      → (record { number = 0; length = capacity } ≡ buildFor capacity d mode (s0 ∷ s1 ∷ s2 ∷ s3 ∷ []) out)
       × (e3 ≡ frameFor capacity d mode (s0 ∷ s1 ∷ s2 ∷ s3 ∷ []) out)
   unfolding buildFor frameFor buildNumber frameOf
   build-done z size e1 e2 e3 at end p q r =

@@ -6,11 +6,11 @@ use Rattle.laws.specs.Settle.{Settles}
 use Rattle.laws.proofs.Settle.{settled-both}
 use Rattle.frames.specs.Frames.{buildFor, frameFor, cutFor, streamFor}
 use Rattle.description.specs.declared.Description.{Description}
-use Rattle.description.specs.declared.Written.{Written}
+use Rattle.moves.specs.declared.Wrote.{Wrote}
 use Rattle.frames.specs.declared.Streams.{Streams}
 
 -- an input is capacity, description, MSC mode, the four streams and the output before the call
-pub build : Settles (λ (i : ℕ × Description × ℕ × List (List ℕ) × List ℕ) (o : Written × List ℕ).
+pub build : Settles (λ (i : ℕ × Description × ℕ × List (List ℕ) × List ℕ) (o : Wrote × List ℕ).
     (o .0 ≡ buildFor (i .0) (i .1) (i .2) (i .3) (i .4)) × (o .1 ≡ frameFor (i .0) (i .1) (i .2) (i .3) (i .4)))
 build = settled-both (λ i. buildFor (i .0) (i .1) (i .2) (i .3) (i .4)) (λ i. frameFor (i .0) (i .1) (i .2) (i .3) (i .4))
 

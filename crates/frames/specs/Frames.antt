@@ -12,8 +12,9 @@ use Rattle.laws.specs.Written.{written}
 use Rattle.description.specs.declared.Lengths.{Lengths}
 use Rattle.description.specs.declared.Description.{Description}
 use Rattle.places.specs.declared.Part.{Part}
-use Rattle.description.specs.declared.Written.{Written}
-use Rattle.description.specs.Answers.{handed, written-or}
+use Rattle.moves.specs.declared.Wrote.{Wrote}
+use Rattle.moves.specs.Wrote.{wroteOf}
+use Rattle.description.specs.Answers.{handed}
 use Rattle.places.specs.Parts.{usedBy, partsOf, badCapacity, noPart}
 use Rattle.frames.specs.declared.Streams.{Streams}
 
@@ -78,8 +79,8 @@ buildTests capacity d mode ns room =
 unfoldable pub buildNumber : ℕ → Description → ℕ → List (List ℕ) → List ℕ → ℕ
 buildNumber capacity d mode ss out = refusedWith (buildTests capacity d mode (map length ss) (length out))
 
-unfoldable pub buildFor : ℕ → Description → ℕ → List (List ℕ) → List ℕ → Written
-buildFor capacity d mode ss out = written-or (buildNumber capacity d mode ss out) capacity
+unfoldable pub buildFor : ℕ → Description → ℕ → List (List ℕ) → List ℕ → Wrote
+buildFor capacity d mode ss out = wroteOf (buildNumber capacity d mode ss out) capacity
 
 unfoldable pub frameFor : ℕ → Description → ℕ → List (List ℕ) → List ℕ → List ℕ
 frameFor capacity d mode ss out = pick (eqb (buildNumber capacity d mode ss out) 0) (written out 0 (frameOf capacity d ss)) out

@@ -12,7 +12,7 @@ use Rattle.frames.specs.Frames.{buildFor, frameFor, cutFor, streamFor}
 
 -- what `build` leaves at the front of an output, as many bytes as it answers
 abbrev pub leftIn : ℕ → Description → ℕ → List (List ℕ) → List ℕ → List ℕ
-leftIn capacity d mode ss out = take (buildFor capacity d mode ss out .len) (frameFor capacity d mode ss out)
+leftIn capacity d mode ss out = take (buildFor capacity d mode ss out .length) (frameFor capacity d mode ss out)
 
 -- each output has room for its stream
 abbrev pub Room : List (List ℕ) → List (List ℕ) → Type 0

@@ -1,7 +1,7 @@
 // The multiplex frame (01, "The description and the frame it cuts"): built from its streams, and cut into them.
 use description::Description;
 use description::Lengths;
-use description::Written;
+use moves::Wrote;
 use places::Part;
 ghost use mathlib.Core.Path.{_≡_};
 ghost use mathlib.Core.List.{[], _∷_, _++_};
@@ -180,7 +180,7 @@ pub fn build(
     s2: &[u8],
     s3: &[u8],
     out: &mut [u8],
-) -> Written
+) -> Wrote
     ensures answer { λ r. ⌜ r ≡ buildFor capacity d mode (now (s0 .entry) ∷ now (s1 .entry) ∷ now (s2 .entry) ∷ now (s3 .entry) ∷ []) (now (out .entry)) ⌝ }
     ensures memory { λ _. ⌜ now (out .exit) ≡ frameFor capacity d mode (now (s0 .entry) ∷ now (s1 .entry) ∷ now (s2 .entry) ∷ now (s3 .entry) ∷ []) (now (out .entry)) ⌝ }
 {
@@ -195,14 +195,14 @@ pub fn build(
         out.len(),
     );
     if number != 0 {
-        return Written { number, len: 0 };
+        return Wrote { number, length: 0 };
     }
     let at = put_all_a(d, s0, s1, s2, s3, out);
     let end = put_all_b(d, s0, s1, s2, s3, out, at);
     clear(out, end, capacity);
-    Written {
+    Wrote {
         number: 0,
-        len: capacity,
+        length: capacity,
     }
 }
 

@@ -10,7 +10,7 @@ use lib.ListN.{length}
 use Rattle.laws.specs.Big.{Bytes}
 use Rattle.laws.specs.Pick.{pick}
 use Rattle.laws.specs.Refuse.{refusedWith}
-use Rattle.fac.proofs.Ways.{front}
+use Rattle.laws.proofs.Written.{front}
 use Rattle.laws.proofs.Refuse.{accepted}
 use Rattle.record.specs.declared.Record.{Record}
 use Rattle.mdi.specs.Refusals.{testsFor}

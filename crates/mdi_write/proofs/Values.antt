@@ -175,28 +175,28 @@ value-size d l c =
 
 module _ (d : Description) (mode : ℕ) (large : forms.tooLarge d ≡ false) (m : mode ≤ 3) (u : answers.unserved mode ≡ false) (ill : forms.illFormed mode d ≡ false) where
   pub write-is : (out : List ℕ) → 13 ≤ length out
-      → (answers.writeFor d mode out ≡ record { number = 0; len = 1 + 3 * d .count }) × (answers.outputFor d mode out ≡ written out 0 (described.valueOf d))
+      → (answers.writeFor d mode out ≡ record { number = 0; length = 1 + 3 * d .count }) × (answers.outputFor d mode out ≡ written out 0 (described.valueOf d))
   unfolding answers.writeFor answers.outputFor answers.writeTests answers.writingTests answers.handed
   write-is out h =
       let c = few d mode ill in
       let r : 1 + 3 * d .count ≤ length out = omega arith in
       simp (large, le-ltb _ _ m, u, ill, le-ltb _ _ r) (refl, refl)
 
-  pub description-length : (w : Rattle.description.specs.declared.Written.Written) → w ≡ answers.writeFor d mode (replicate 13 0) → w .len ≤ 13
+  pub description-length : (w : Rattle.moves.specs.declared.Wrote.Wrote) → w ≡ answers.writeFor d mode (replicate 13 0) → w .length ≤ 13
   description-length w q =
       let c = few d mode ill in
       let z = zeros-length 13 in
-      let k : w .len ≡ 1 + 3 * d .count = ap (λ (x : Rattle.description.specs.declared.Written.Written). x .len) (q ∙ write-is (zeros 13) (omega arith) .0) in
+      let k : w .length ≡ 1 + 3 * d .count = ap (λ (x : Rattle.moves.specs.declared.Wrote.Wrote). x .length) (q ∙ write-is (zeros 13) (omega arith) .0) in
       omega arith
 
-  pub description-value : (v : List ℕ) (w : Rattle.description.specs.declared.Written.Written) → length (d .stream) ≡ 4 → w ≡ answers.writeFor d mode (replicate 13 0)
-      → v ≡ answers.outputFor d mode (replicate 13 0) → take (w .len - 0) v ≡ described.valueOf d
+  pub description-value : (v : List ℕ) (w : Rattle.moves.specs.declared.Wrote.Wrote) → length (d .stream) ≡ 4 → w ≡ answers.writeFor d mode (replicate 13 0)
+      → v ≡ answers.outputFor d mode (replicate 13 0) → take (w .length - 0) v ≡ described.valueOf d
   description-value v w l q p =
       let z = zeros-length 13 in
       let i = write-is (zeros 13) (omega arith) in
-      let k : w .len ≡ length (described.valueOf d) =
-      ap (λ (x : Rattle.description.specs.declared.Written.Written). x .len) (q ∙ i .0) ∙ sym (value-size d l (few d mode ill)) in
-      ap (take (w .len - 0)) (p ∙ i .1) ∙ front-part (zeros 13) (described.valueOf d) (w .len) k
+      let k : w .length ≡ length (described.valueOf d) =
+      ap (λ (x : Rattle.moves.specs.declared.Wrote.Wrote). x .length) (q ∙ i .0) ∙ sym (value-size d l (few d mode ill)) in
+      ap (take (w .length - 0)) (p ∙ i .1) ∙ front-part (zeros 13) (described.valueOf d) (w .length) k
 
 -- the MSC mode of a channel that is served
 pub mode-served : (f : Fac) → fast.notServed f ≡ false → answers.unserved (f .msc) ≡ false
@@ -244,9 +244,9 @@ module _ (time : Time) where
     time-some t r e q p w = (p ∙ rw q refl, w ∙ rw q refl)
 
 -- a timestamp's own refusals, with room for it
-pub stamp-wrong : (t : Stamp) (x : Rattle.clock.specs.declared.Encoded.Encoded) → x ≡ clock.encodedFor t (replicate 8 0) → not (eqb (x .number) 0) ≡ not (eqb (refusedWith (clock.fieldTests t)) 0)
+pub stamp-wrong : (t : Stamp) (x : Rattle.moves.specs.declared.Wrote.Wrote) → x ≡ clock.encodedFor t (replicate 8 0) → not (eqb (x .number) 0) ≡ not (eqb (refusedWith (clock.fieldTests t)) 0)
 unfolding clock.encodedFor clock.encodeNumber clock.encodeTests
-stamp-wrong t x e = ap (λ (k : ℕ). not (eqb k 0)) (ap (λ (y : Rattle.clock.specs.declared.Encoded.Encoded). y .number) e ∙ go (eqb (refusedWith (clock.fieldTests t)) 0) refl)
+stamp-wrong t x e = ap (λ (k : ℕ). not (eqb k 0)) (ap (λ (y : Rattle.moves.specs.declared.Wrote.Wrote). y .number) e ∙ go (eqb (refusedWith (clock.fieldTests t)) 0) refl)
   where
     go : (b : Bool) → eqb (refusedWith (clock.fieldTests t)) 0 ≡ b → refusedWith (clock.encodeTests t (replicate 8 0)) ≡ refusedWith (clock.fieldTests t)
     go true q =

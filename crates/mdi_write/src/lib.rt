@@ -96,7 +96,7 @@ fn put_description(
 {
     let mut value = [0u8; 13];
     let w = description::write(d, mode, &mut value);
-    let n = w.len;
+    let n = w.length;
     put_item(names, mdi_spots::SDCI, &value[0..n], out, at)
 }
 

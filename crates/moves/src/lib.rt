@@ -4,6 +4,13 @@ ghost use mathlib.Core.Path.{_≡_};
 ghost use lib.ListN.{replicate};
 ghost use Rattle.moves.specs.Moves.{placed, behind, pulled};
 
+// The answer of a call that writes, in this crate and those above it: 01's number, and how many bytes of the output are written, none
+// where it is refused.
+pub struct Wrote {
+    pub number: u32,
+    pub length: usize,
+}
+
 // Copies all of src into dst from index at on.
 pub fn copy(src: &[u8], dst: &mut [u8], at: usize)
     ensures { λ _. ⌜ now (dst .exit) ≡ placed (now (dst .entry)) at (now (src .entry)) ⌝ }

@@ -9,7 +9,7 @@ use Rattle.laws.specs.Settle.{Settles}
 use Rattle.laws.proofs.Settle.{settled, settled-both}
 use Rattle.packet.specs.Calls.{checkFor, readFor, usefulFor, outFor, writeFor}
 use Rattle.packet.specs.declared.Head.{Head}
-use Rattle.packet.specs.declared.Wrote.{Wrote}
+use Rattle.moves.specs.declared.Wrote.{Wrote}
 use Rattle.packet.specs.Packet.{packetOf}
 
 pub check : Settles (λ (i : ℕ × List ℕ) (r : ℕ). r ≡ checkFor (i .0) (i .1))

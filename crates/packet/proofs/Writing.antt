@@ -20,7 +20,7 @@ use Rattle.moves.specs.Moves.{placed}
 use Rattle.moves.proofs.Turns.{placed-is}
 use Rattle.packet.specs.Packet.{packetOf, headOf, dataOf, plainOf, sealed, encode}
 use Rattle.packet.specs.Calls.{writeTests, writeNumberFor, writeFor, outFor}
-use Rattle.packet.specs.declared.Wrote.{Wrote}
+use Rattle.moves.specs.declared.Wrote.{Wrote}
 use Rattle.packet.proofs.Checks.{from-start}
 
 pub data-length : (p : ℕ) (d : List ℕ) → length d ≤ p → length (dataOf p d) ≡ p

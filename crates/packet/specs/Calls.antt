@@ -11,7 +11,8 @@ use Rattle.laws.specs.Written.{written}
 use Rattle.crc.specs.Crc.{crcOf}
 use Rattle.packet.specs.Packet.{Packet, padded, decode, encode}
 use Rattle.packet.specs.declared.Head.{Head}
-use Rattle.packet.specs.declared.Wrote.{Wrote}
+use Rattle.moves.specs.declared.Wrote.{Wrote}
+use Rattle.moves.specs.Wrote.{wroteOf}
 
 -- ---- check, read, useful
 -- the two bytes behind the data are another number than the CRC-16 of all before them
@@ -62,7 +63,7 @@ unfoldable pub writeNumberFor : ℕ → Packet → ℕ → ℕ
 writeNumberFor p k room = refusedWith (writeTests p (k .id) (k .index) (length (k .chunk .body)) room)
 
 unfoldable pub writeFor : ℕ → Packet → ℕ → Wrote
-writeFor p k room = record { number = writeNumberFor p k room; length = pick (eqb (writeNumberFor p k room) 0) (p + 3) 0 }
+writeFor p k room = wroteOf (writeNumberFor p k room) (p + 3)
 
 -- the output after it: the packet at its front
 unfoldable pub outFor : ℕ → Packet → List ℕ → List ℕ

@@ -1,5 +1,6 @@
 // One data packet (01, "Packets, queues and receiver"; 000, 6.6.1.1 and 6.6.1.2): checked, read and written. p is the number of its
 // data bytes; a header byte stands before them and the CRC-16 of all that behind them.
+use moves::Wrote;
 ghost use mathlib.Core.Path.{_≡_};
 ghost use mathlib.Core.List.{_∷_};
 ghost use Prim.Native.Nat.{_+_, _≤_, _<_};
@@ -17,12 +18,6 @@ pub struct Head {
     pub id: u8,
     pub padded: bool,
     pub index: u8,
-    pub length: usize,
-}
-
-// The number, and the bytes written: 0 where it is refused.
-pub struct Wrote {
-    pub number: u32,
     pub length: usize,
 }
 
