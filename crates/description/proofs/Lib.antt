@@ -1,4 +1,5 @@
 pub mod Tests
+pub mod Filled
 pub mod Pieces
 pub mod Ways
 pub mod Writing

@@ -1,8 +1,9 @@
 -- The description of the streams as bytes (01, "MDI packet", `sdci`, and "The description and the frame it cuts"; 002, 5.1.5; 000, 6.4.3.0
 -- and 6.4.3.1). Assumes nothing.
 use Prim.Native.Nat.{ℕ, _+_, _*_, _/_}
+use mathlib.Core.Bool.{Bool, _&&_}
 use mathlib.Core.List.{List, [], _∷_, _++_}
-use lib.Dec.{leb}
+use lib.Dec.{eqb, leb}
 use lib.ListN.{length, getD, take, drop}
 use Rattle.laws.specs.Big.{bytesOf, bigOf}
 use Rattle.laws.specs.Fields.{total, fieldsOf, numberOf}
@@ -59,6 +60,10 @@ nothing = record { level = record { a = 0; b = 0 }; count = 0; stream = noStream
 -- the bytes of both parts of the stream in a slot; 0 in a slot in which there is none
 abbrev pub saidOf : Description → ℕ → ℕ
 saidOf d k = getD (d .stream) k noStream .a + getD (d .stream) k noStream .b
+
+-- streams of so many bytes are as long as the description says, 0 where it has none: else refusal 11, of a frame and of an MDI packet read or written
+abbrev pub filled : Description → ℕ → ℕ → ℕ → ℕ → Bool
+filled d n0 n1 n2 n3 = eqb n0 (saidOf d 0) && eqb n1 (saidOf d 1) && eqb n2 (saidOf d 2) && eqb n3 (saidOf d 3)
 
 -- the lengths that three bytes say
 unfoldable pub lengthsOf : List ℕ → Lengths

@@ -1,10 +1,9 @@
 -- A frame as it is built: what its tests say of the streams, and what the call answers and leaves. Assumes nothing.
 use mathlib.Core.Path.{_≡_, refl, sym, ap, ap₂, _∙_, subst}
-use mathlib.Core.Bool.{false, not, _||_}
 use mathlib.Core.List.{List, [], _∷_, _++_, map}
 use Prim.Native.Nat.{ℕ, _+_, _-_, _≤_}
 use native.Mathlib.Omega.{arith}
-use borrow.Author.Tests.{ltb-false, not-false, ne-eqb, eqb-true}
+use borrow.Author.Tests.{ltb-false, not-false, ne-eqb}
 use lib.Dec.{eqb, lit<}
 use lib.ListN.{length, replicate}
 use Rattle.laws.specs.Refuse.{refusedWith}
@@ -15,34 +14,22 @@ use Rattle.moves.specs.Moves.{Puts}
 use Rattle.moves.proofs.Pieces.{puts-then}
 use Rattle.description.specs.declared.Lengths.{Lengths}
 use Rattle.description.specs.declared.Description.{Description}
+use Rattle.description.specs.Bytes.{saidOf}
 use Rattle.description.specs.Answers.{handed}
 use Rattle.places.specs.Parts.{usedBy}
+use Rattle.description.proofs.Filled.{filled-each}
 use Rattle.description.proofs.Tests.{four}
 use Rattle.places.proofs.Placing.{used-is}
-use Rattle.description.proofs.Writing.{neither}
-use Rattle.frames.specs.Frames.{partsA, partsB, joined, frameOf, sizes, somePair, other, buildTests, buildNumber, buildFor, frameFor}
-use Rattle.frames.specs.Ready.{slot, sizeOf, allA, allB, Ready}
+use Rattle.frames.specs.Frames.{partsA, partsB, joined, frameOf, sizes, buildTests, buildNumber, buildFor, frameFor}
+use Rattle.frames.specs.Ready.{slot, allA, allB, Ready}
 use Rattle.frames.proofs.Putting.{joined-append}
 
 pub all-used : (d : Description) → length (d .stream) ≡ 4 → allA d + allB d ≡ usedBy d
 all-used d n =
     used-is d n (slot d 0 .a) (slot d 1 .a) (slot d 2 .a) (slot d 3 .a) (slot d 0 .b) (slot d 1 .b) (slot d 2 .b) (slot d 3 .b) refl refl refl refl refl refl refl refl
 
--- no length is another
-pub none-other : (k0 k1 k2 k3 n0 n1 n2 n3 : ℕ) → somePair other (k0 ∷ k1 ∷ k2 ∷ k3 ∷ []) (n0 ∷ n1 ∷ n2 ∷ n3 ∷ []) ≡ false
-    → (n0 ≡ k0) × (n1 ≡ k1) × (n2 ≡ k2) × (n3 ≡ k3)
-none-other k0 k1 k2 k3 n0 n1 n2 n3 e =
-    let p = neither (not (eqb n0 k0)) (not (eqb n1 k1) || (not (eqb n2 k2) || (not (eqb n3 k3) || false))) e in
-    let q = neither (not (eqb n1 k1)) (not (eqb n2 k2) || (not (eqb n3 k3) || false)) (p .1) in
-    let r = neither (not (eqb n2 k2)) (not (eqb n3 k3) || false) (q .1) in
-    let s = neither (not (eqb n3 k3)) false (r .1) in
-    (same n0 k0 (p .0), same n1 k1 (q .0), same n2 k2 (r .0), same n3 k3 (s .0))
-  where
-    same : (n k : ℕ) → not (eqb n k) ≡ false → n ≡ k
-    same n k h = eqb-true n k (not-false (eqb n k) h)
-
 pub sizes-four : (d : Description) → length (d .stream) ≡ 4
-    → sizes d ≡ sizeOf d 0 ∷ sizeOf d 1 ∷ sizeOf d 2 ∷ sizeOf d 3 ∷ []
+    → sizes d ≡ saidOf d 0 ∷ saidOf d 1 ∷ saidOf d 2 ∷ saidOf d 3 ∷ []
 sizes-four d n = ap (λ (s : List Lengths). map (λ l. l .a + l .b) s) (four (d .stream) n)
 
 module _ (capacity : ℕ) (d : Description) (mode : ℕ) (s0 s1 s2 s3 : List ℕ) (room n : ℕ) (size : length (d .stream) ≡ 4)
@@ -52,9 +39,7 @@ module _ (capacity : ℕ) (d : Description) (mode : ℕ) (s0 s1 s2 s3 : List ℕ
   ready-of z =
       let ns = length s0 ∷ length s1 ∷ length s2 ∷ length s3 ∷ [] in
       let f = free (buildTests capacity d mode ns room) (lit< tt, (lit< tt, (lit< tt, (lit< tt, (lit< tt, (lit< tt, (lit< tt, tt))))))) (sym e ∙ z) in
-      let o : somePair other (sizeOf d 0 ∷ sizeOf d 1 ∷ sizeOf d 2 ∷ sizeOf d 3 ∷ []) ns ≡ false =
-      ap (λ (ks : List ℕ). somePair other ks ns) (sym (sizes-four d size)) ∙ f .1 .1 .1 .1 .0 in
-      let w = none-other (sizeOf d 0) (sizeOf d 1) (sizeOf d 2) (sizeOf d 3) (length s0) (length s1) (length s2) (length s3) o in
+      let w = filled-each d (length s0) (length s1) (length s2) (length s3) (not-false _ (f .1 .1 .1 .1 .0)) in
       let u : usedBy d ≤ capacity = ltb-false capacity (usedBy d) (f .1 .1 .1 .1 .1 .0) in
       let c : capacity ≤ room = ltb-false room capacity (f .1 .1 .1 .1 .1 .1 .0) in
       let k = all-used d size in

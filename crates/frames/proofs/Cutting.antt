@@ -17,13 +17,13 @@ use Rattle.moves.proofs.Pieces.{puts, puts-then}
 use Rattle.description.specs.declared.Description.{Description}
 use Rattle.places.specs.declared.Part.{Part}
 use Rattle.places.specs.declared.Places.{Places}
-use Rattle.description.specs.Bytes.{noStream}
+use Rattle.description.specs.Bytes.{noStream, saidOf}
 use Rattle.description.specs.Answers.{handed}
 use Rattle.places.specs.Parts.{usedBy, partsOf, badCapacity, layoutTests, noPart, layoutFor}
 use Rattle.places.proofs.Placing.{parts-are}
 use Rattle.description.proofs.Writing.{neither}
-use Rattle.frames.specs.Frames.{bytesIn, streamIn, sizes, somePair, less, cutTests, cutNumber, cutFor, streamFor}
-use Rattle.frames.specs.Ready.{slot, sizeOf, allA, allB}
+use Rattle.frames.specs.Frames.{bytesIn, streamIn, sizes, anyLess, cutTests, cutNumber, cutFor, streamFor}
+use Rattle.frames.specs.Ready.{slot, allA, allB}
 use Rattle.frames.proofs.Building.{all-used, sizes-four}
 
 -- two parts of a frame, copied one behind the other
@@ -71,7 +71,7 @@ Fits ps i size room =
     (getD ps i noPart .at + getD ps i noPart .len ≤ size) × (getD ps (4 + i) noPart .at + getD ps (4 + i) noPart .len ≤ size)
     × (getD ps i noPart .len + getD ps (4 + i) noPart .len ≤ room)
 
-pub within : (d : Description) (size room : ℕ) → allA d + allB d ≤ size → (i : ℕ) → i < 4 → sizeOf d i ≤ room → Fits (eight d) i size room
+pub within : (d : Description) (size room : ℕ) → allA d + allB d ≤ size → (i : ℕ) → i < 4 → saidOf d i ≤ room → Fits (eight d) i size room
 within d size room h zero l k = (omega arith, omega arith, omega arith)
 within d size room h (suc zero) l k = (omega arith, omega arith, omega arith)
 within d size room h (suc (suc zero)) l k = (omega arith, omega arith, omega arith)
@@ -79,11 +79,11 @@ within d size room h (suc (suc (suc zero))) l k = (omega arith, omega arith, ome
 within d size room h (suc (suc (suc (suc i)))) l k = absurd (omega arith)
 
 -- no length is less
-none-less : (ks ns : List ℕ) → somePair less ks ns ≡ false → (i : ℕ) → i < length ks → i < length ns → getD ks i 0 ≤ getD ns i 0
+none-less : (ks ns : List ℕ) → anyLess ks ns ≡ false → (i : ℕ) → i < length ks → i < length ns → getD ks i 0 ≤ getD ns i 0
 none-less [] ns e i h l = absurd (omega arith)
 none-less (k ∷ ks) [] e i h l = absurd (omega arith)
-none-less (k ∷ ks) (n ∷ ns) e zero h l = ltb-false n k (neither (ltb n k) (somePair less ks ns) e .0)
-none-less (k ∷ ks) (n ∷ ns) e (suc i) h l = none-less ks ns (neither (ltb n k) (somePair less ks ns) e .1) i (omega arith) (omega arith)
+none-less (k ∷ ks) (n ∷ ns) e zero h l = ltb-false n k (neither (ltb n k) (anyLess ks ns) e .0)
+none-less (k ∷ ks) (n ∷ ns) e (suc i) h l = none-less ks ns (neither (ltb n k) (anyLess ks ns) e .1) i (omega arith) (omega arith)
 
 module _ (capacity : ℕ) (d : Description) (mode size n0 n1 n2 n3 n : ℕ) (four : length (d .stream) ≡ 4)
     (e : n ≡ refusedWith (cutTests capacity d mode size (n0 ∷ n1 ∷ n2 ∷ n3 ∷ []))) (z : n ≡ 0) (p : Places) (l : p ≡ layoutFor capacity d mode) where
@@ -104,12 +104,12 @@ module _ (capacity : ℕ) (d : Description) (mode size n0 n1 n2 n3 n : ℕ) (fou
       let u : usedBy d ≤ capacity = ltb-false capacity (usedBy d) (f .1 .1 .1 .1 .0) in
       let k = all-used d four in
       let s : getD (sizes d) i 0 ≤ getD ns i 0 = none-less (sizes d) ns (f .1 .1 .1 .1 .1 .0) i (rw (sizes-four d four) h) h in
-      let m : getD (sizes d) i 0 ≡ sizeOf d i = List·getD-map (λ l. l .a + l .b) (d .stream) i noStream in
+      let m : getD (sizes d) i 0 ≡ saidOf d i = List·getD-map (λ l. l .a + l .b) (d .stream) i noStream in
       rw (parts-of, parts-eight d four) (within d size (getD ns i 0) (omega arith) i h (omega arith))
 
 -- the sizes, slot by slot
 pub sizes-are : (d : Description) (k0 k1 k2 k3 : ℕ) → length (d .stream) ≡ 4
-    → (k0 ≡ sizeOf d 0) × (k0 ≤ 131070) → (k1 ≡ sizeOf d 1) × (k1 ≤ 131070) → (k2 ≡ sizeOf d 2) × (k2 ≤ 131070) → (k3 ≡ sizeOf d 3) × (k3 ≤ 131070)
+    → (k0 ≡ saidOf d 0) × (k0 ≤ 131070) → (k1 ≡ saidOf d 1) × (k1 ≤ 131070) → (k2 ≡ saidOf d 2) × (k2 ≤ 131070) → (k3 ≡ saidOf d 3) × (k3 ≤ 131070)
     → k0 ∷ k1 ∷ k2 ∷ k3 ∷ [] ≡ sizes d
 sizes-are d k0 k1 k2 k3 n e0 e1 e2 e3 = rw (e0 .0, e1 .0, e2 .0, e3 .0) (sym (sizes-four d n))
 

@@ -14,14 +14,15 @@ use Rattle.laws.specs.Written.{written}
 use Rattle.laws.proofs.Refuse.{free}
 use Rattle.description.specs.declared.Lengths.{Lengths}
 use Rattle.description.specs.declared.Description.{Description}
+use Rattle.description.specs.Bytes.{saidOf}
 use Rattle.places.specs.declared.Part.{Part}
 use Rattle.description.specs.Answers.{handed}
 use Rattle.places.specs.Parts.{sum, lengthsIn, usedBy, partsFrom, partsOf, badCapacity, noPart}
 use Rattle.places.proofs.Placing.{lengths-eight}
 use Rattle.description.proofs.Tests.{four}
 use Rattle.description.proofs.Writing.{neither}
-use Rattle.frames.specs.Frames.{eachOf, partsA, partsB, joined, frameOf, bytesIn, streamIn, anyLong, somePair, less, buildTests, buildNumber, buildFor, frameFor, cutTests, cutNumber, cutFor, streamFor}
-use Rattle.frames.specs.Ready.{slot, sizeOf, allA, allB, Ready}
+use Rattle.frames.specs.Frames.{eachOf, partsA, partsB, joined, frameOf, bytesIn, streamIn, anyLong, anyLess, buildTests, buildNumber, buildFor, frameFor, cutTests, cutNumber, cutFor, streamFor}
+use Rattle.frames.specs.Ready.{slot, allA, allB, Ready}
 use Rattle.frames.proofs.Building.{all-used, sizes-four, ready-of}
 use Rattle.frames.proofs.Cutting.{eight, parts-eight, within}
 
@@ -41,7 +42,7 @@ length-joined [] = refl
 length-joined (x ∷ xs) = length-append x (joined xs) ∙ ap (λ (n : ℕ). length x + n) (length-joined xs)
 
 module _ (d : Description) (s0 s1 s2 s3 : List ℕ) (size : length (d .stream) ≡ 4)
-    (n0 : length s0 ≡ sizeOf d 0) (n1 : length s1 ≡ sizeOf d 1) (n2 : length s2 ≡ sizeOf d 2) (n3 : length s3 ≡ sizeOf d 3) where
+    (n0 : length s0 ≡ saidOf d 0) (n1 : length s1 ≡ saidOf d 1) (n2 : length s2 ≡ saidOf d 2) (n3 : length s3 ≡ saidOf d 3) where
   pieces : List (List ℕ)
   pieces =
       take (slot d 0 .a) s0 ∷ take (slot d 1 .a) s1 ∷ take (slot d 2 .a) s2 ∷ take (slot d 3 .a) s3
@@ -52,10 +53,10 @@ module _ (d : Description) (s0 s1 s2 s3 : List ℕ) (size : length (d .stream) �
   pieces-four =
       ap (λ (ls : List Lengths). eachOf take ls (s0 ∷ s1 ∷ s2 ∷ s3 ∷ []) ++ eachOf drop ls (s0 ∷ s1 ∷ s2 ∷ s3 ∷ [])) (four (d .stream) size)
 
-  part-a : (i : ℕ) (s : List ℕ) → length s ≡ sizeOf d i → length (take (slot d i .a) s) ≡ slot d i .a
+  part-a : (i : ℕ) (s : List ℕ) → length s ≡ saidOf d i → length (take (slot d i .a) s) ≡ slot d i .a
   part-a i s n = length-take-le (slot d i .a) s (omega arith)
 
-  part-b : (i : ℕ) (s : List ℕ) → length s ≡ sizeOf d i → length (drop (slot d i .a) s) ≡ slot d i .b
+  part-b : (i : ℕ) (s : List ℕ) → length s ≡ saidOf d i → length (drop (slot d i .a) s) ≡ slot d i .b
   part-b i s n = length-drop (slot d i .a) s ∙ omega arith
 
   lengths-are : map length pieces ≡ lengthsIn d
@@ -97,7 +98,7 @@ module _ (d : Description) (s0 s1 s2 s3 : List ℕ) (size : length (d .stream) �
       ap (λ (xs : List (List ℕ)). length (joined xs)) pieces-four ∙ length-joined pieces ∙ ap sum lengths-are
 
 no-less : (k0 k1 k2 k3 n0 n1 n2 n3 : ℕ) → k0 ≤ n0 → k1 ≤ n1 → k2 ≤ n2 → k3 ≤ n3
-    → somePair less (k0 ∷ k1 ∷ k2 ∷ k3 ∷ []) (n0 ∷ n1 ∷ n2 ∷ n3 ∷ []) ≡ false
+    → anyLess (k0 ∷ k1 ∷ k2 ∷ k3 ∷ []) (n0 ∷ n1 ∷ n2 ∷ n3 ∷ []) ≡ false
 no-less k0 k1 k2 k3 n0 n1 n2 n3 h0 h1 h2 h3 = rw (le-ltb n0 k0 h0, le-ltb n1 k1 h1, le-ltb n2 k2 h2, le-ltb n3 k3 h3)
 
 module _ (capacity : ℕ) (d : Description) (mode : ℕ) (s0 s1 s2 s3 out : List ℕ) (size : length (d .stream) ≡ 4)
@@ -141,7 +142,7 @@ module _ (capacity : ℕ) (d : Description) (mode : ℕ) (s0 s1 s2 s3 out : List
         let m1 = w .n1 in
         let m2 = w .n2 in
         let m3 = w .n3 in
-        let l = no-less (sizeOf d 0) (sizeOf d 1) (sizeOf d 2) (sizeOf d 3) (length o0) (length o1) (length o2) (length o3)
+        let l = no-less (saidOf d 0) (saidOf d 1) (saidOf d 2) (saidOf d 3) (length o0) (length o1) (length o2) (length o3)
         (omega arith) (omega arith) (omega arith) (omega arith) in
         rw (b, frame-size, eq-eqb capacity capacity refl, f .1 .0, f .1 .1 .0, f .1 .1 .1 .0, f .1 .1 .1 .1 .1 .0, sizes-four d size, l)
 
@@ -179,7 +180,7 @@ pub padding-free : (d : Description) (f g : List ℕ) → length (d .stream) ≡
     → take (usedBy d) f ≡ take (usedBy d) g → (i : ℕ) → i < 4 → streamIn d f i ≡ streamIn d g i
 unfolding streamIn
 padding-free d f g size u l e i h =
-    let w = within d (usedBy d) (sizeOf d i) (let k = all-used d size in omega arith) i h (omega arith) in
+    let w = within d (usedBy d) (saidOf d i) (let k = all-used d size in omega arith) i h (omega arith) in
     rw (parts-eight d size)
     (ap₂ (λ (x y : List ℕ). x ++ y)
     (same (getD (eight d) i noPart) (w .0))

@@ -15,6 +15,7 @@ use Rattle.places.specs.declared.Part.{Part}
 use Rattle.moves.specs.declared.Wrote.{Wrote}
 use Rattle.moves.specs.Wrote.{wroteOf}
 use Rattle.description.specs.Answers.{handed}
+use Rattle.description.specs.Bytes.{filled}
 use Rattle.places.specs.Parts.{usedBy, partsOf, badCapacity, noPart}
 use Rattle.frames.specs.declared.Streams.{Streams}
 
@@ -57,24 +58,18 @@ abbrev pub anyLong : List ℕ → Bool
 anyLong [] = false
 anyLong (n ∷ ns) = ltb longest n || anyLong ns
 
--- some length n beside the description's k is so
-abbrev pub somePair : (ℕ → ℕ → Bool) → List ℕ → List ℕ → Bool
-somePair q [] ns = false
-somePair q (k ∷ ks) [] = false
-somePair q (k ∷ ks) (n ∷ ns) = q k n || somePair q ks ns
-
--- another than it; less than it
-abbrev pub other : ℕ → ℕ → Bool
-other k n = not (eqb n k)
-
-abbrev pub less : ℕ → ℕ → Bool
-less k n = ltb n k
+-- some length is less than the one that the description has
+abbrev pub anyLess : List ℕ → List ℕ → Bool
+anyLess [] ns = false
+anyLess (k ∷ ks) [] = false
+anyLess (k ∷ ks) (n ∷ ns) = ltb n k || anyLess ks ns
 
 -- building, from streams of these lengths into so much room
 unfoldable pub buildTests : ℕ → Description → ℕ → List ℕ → ℕ → List Test
 buildTests capacity d mode ns room =
     test (badCapacity capacity || anyLong ns) 1
-    ∷ handed false d mode (test (somePair other (sizes d) ns) 11 ∷ test (ltb capacity (usedBy d)) 12 ∷ test (ltb room capacity) 1 ∷ [])
+    ∷ handed false d mode
+    (test (not (filled d (getD ns 0 0) (getD ns 1 0) (getD ns 2 0) (getD ns 3 0))) 11 ∷ test (ltb capacity (usedBy d)) 12 ∷ test (ltb room capacity) 1 ∷ [])
 
 unfoldable pub buildNumber : ℕ → Description → ℕ → List (List ℕ) → List ℕ → ℕ
 buildNumber capacity d mode ss out = refusedWith (buildTests capacity d mode (map length ss) (length out))
@@ -89,7 +84,7 @@ frameFor capacity d mode ss out = pick (eqb (buildNumber capacity d mode ss out)
 unfoldable pub cutTests : ℕ → Description → ℕ → ℕ → List ℕ → List Test
 cutTests capacity d mode size rooms =
     test (badCapacity capacity || not (eqb size capacity)) 1
-    ∷ handed false d mode (test (ltb capacity (usedBy d)) 12 ∷ test (somePair less (sizes d) rooms) 1 ∷ [])
+    ∷ handed false d mode (test (ltb capacity (usedBy d)) 12 ∷ test (anyLess (sizes d) rooms) 1 ∷ [])
 
 unfoldable pub cutNumber : ℕ → Description → ℕ → List ℕ → List (List ℕ) → ℕ
 cutNumber capacity d mode frame outs = refusedWith (cutTests capacity d mode (length frame) (map length outs))

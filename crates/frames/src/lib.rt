@@ -9,9 +9,10 @@ ghost use Prim.Native.Nat.{_+_, _-_, _≤_};
 ghost use lib.ListN.{length, take, drop, replicate};
 ghost use Rattle.laws.specs.Refuse.{refusedWith};
 ghost use Rattle.laws.specs.Written.{written};
+ghost use Rattle.description.specs.Bytes.{filled};
 ghost use Rattle.moves.specs.Moves.{Puts};
 ghost use Rattle.frames.specs.Ready.{allA, allB, Ready};
-ghost use Rattle.frames.specs.Frames.{partsA, partsB, joined, bytesIn, somePair, other, less, sizes, buildTests, buildFor, frameFor, cutTests, cutFor, streamFor};
+ghost use Rattle.frames.specs.Frames.{partsA, partsB, joined, bytesIn, anyLess, sizes, buildTests, buildFor, frameFor, cutTests, cutFor, streamFor};
 
 // Number 0: the bytes of each stream.
 pub struct Streams {
@@ -106,7 +107,7 @@ fn build_number(
     if number != 0 {
         return number;
     }
-    if other_sizes(d, n0, n1, n2, n3) {
+    if !is_filled(d, n0, n1, n2, n3) {
         return 11;
     }
     if capacity < places::used(d) {
@@ -118,20 +119,20 @@ fn build_number(
     0
 }
 
-// Whether a length is another than that of the slot's stream.
-fn other_sizes(d: Description, n0: usize, n1: usize, n2: usize, n3: usize) -> bool
-    ensures { λ r. ⌜ r ≡ somePair other (sizes d) (n0 ∷ n1 ∷ n2 ∷ n3 ∷ []) ⌝ }
+// Whether the lengths are those of the slots' streams.
+fn is_filled(d: Description, n0: usize, n1: usize, n2: usize, n3: usize) -> bool
+    ensures { λ r. ⌜ r ≡ filled d n0 n1 n2 n3 ⌝ }
 {
     let k0 = size(d.stream[0]);
     let k1 = size(d.stream[1]);
     let k2 = size(d.stream[2]);
     let k3 = size(d.stream[3]);
-    !(n0 == k0) | (!(n1 == k1) | (!(n2 == k2) | !(n3 == k3)))
+    (n0 == k0) & (n1 == k1) & (n2 == k2) & (n3 == k3)
 }
 
 // Whether a length is less than that of the slot's stream.
 fn less_sizes(d: Description, n0: usize, n1: usize, n2: usize, n3: usize) -> bool
-    ensures { λ r. ⌜ r ≡ somePair less (sizes d) (n0 ∷ n1 ∷ n2 ∷ n3 ∷ []) ⌝ }
+    ensures { λ r. ⌜ r ≡ anyLess (sizes d) (n0 ∷ n1 ∷ n2 ∷ n3 ∷ []) ⌝ }
 {
     let k0 = size(d.stream[0]);
     let k1 = size(d.stream[1]);

@@ -15,8 +15,8 @@ handed-number-requires c κs = tt
 returns-2 : tie.Need-returns-2
 returns-2 c = search building
 
-other-sizes-requires : tie.Need-other-sizes-requires
-other-sizes-requires c κs = tt
+is-filled-requires : tie.Need-is-filled-requires
+is-filled-requires c κs = tt
 
 returns-3 : tie.Need-returns-3
 returns-3 c = search building
@@ -41,7 +41,7 @@ build-number-spec =
     returns
     handed-number-requires
     returns-2
-    other-sizes-requires
+    is-filled-requires
     returns-3
     used-requires
     returns-4

@@ -1,9 +1,9 @@
--- `frames::other_sizes` meets its contract. Assumes nothing.
+-- `frames::is_filled` meets its contract. Assumes nothing.
 use lib.Dec.{lit<}
 use Rattle.description.proofs.Tests.{sized}
-use Rattle.frames.proofs.Ways.{others-are}
-use Rattle.frames.proofs.other_sizes.Statement.{statement}
-use Rattle.frames.proofs.other_sizes.Tie as tie
+use Rattle.frames.proofs.Ways.{filled-are}
+use Rattle.frames.proofs.is_filled.Statement.{statement}
+use Rattle.frames.proofs.is_filled.Tie as tie
 
 element-copy-out-size : tie.Need-element-copy-out-size
 element-copy-out-size c = lit< tt
@@ -30,10 +30,10 @@ size-requires-4 : tie.Need-size-requires-4
 size-requires-4 c κs = tt
 
 returns : tie.Need-returns
-returns c = search (others-are, sized)
+returns c = search (filled-are, sized)
 
-pub other-sizes-spec : {M : Type 1} → statement M
-other-sizes-spec =
+pub is-filled-spec : {M : Type 1} → statement M
+is-filled-spec =
     tie.close
     (tie.spec
     element-copy-out-size
