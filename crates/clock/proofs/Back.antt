@@ -8,11 +8,11 @@ use native.Mathlib.Omega.{arith}
 use borrow.Author.Tests.{eq-eqb, le-ltb, ltb-false, not-false, eqb-true}
 use lib.Dec.{lit<, ltb}
 use lib.ListN.{length, getD, take, drop}
-use lib.Seq.{take-at}
 use Rattle.laws.specs.Big.{Bytes, bytesOf, bigOf}
 use Rattle.laws.specs.Fields.{Fit}
 use Rattle.laws.specs.Refuse.{test}
 use Rattle.laws.specs.Written.{written}
+use Rattle.laws.proofs.Written.{front}
 use Rattle.laws.proofs.Big.{big-back, bytes-back, big-lt, bytes-length}
 use Rattle.laws.proofs.Fields.{fields-number, number-fields, number-lt, fields-fit}
 use Rattle.laws.proofs.Refuse.{free}
@@ -97,11 +97,6 @@ module _ (value : List ℕ) where
   pub decodes : length value ≡ 8 → late value ≡ false → decodedFor value ≡ record { number = 0; stamp = stampOf value }
   unfolding decodedFor given decodeTests
   decodes l h = let s : length value ≤ 65528 = omega arith in simp (le-ltb _ _ s, eq-eqb _ _ l, h)
-
--- what was written at the front of an output
-front : (d xs : List ℕ) (n : ℕ) → length xs ≡ n → take n (written d 0 xs) ≡ xs
-unfolding written
-front d xs n l = take-at xs (drop (0 + length xs) d) n l
 
 -- B9, decode of encode: what is accepted for writing comes back
 pub decode-encode : (t : Stamp) (out : List ℕ) → encodedFor t out .number ≡ 0

@@ -9,7 +9,8 @@ use borrow.Author.Tests.{ltb-true, ltb-false}
 use lib.Dec.{ltb}
 use native.Mathlib.Nat.{min-le-left}
 use lib.ListN.{length, take, drop, length-append, length-take, take-append-drop}
-use Rattle.cutting.specs.Cutting.{Cut, waiting, joined, by, cutFrom, cutOf, unless, feed, feedAll, allOf, Steady, Good, AllGood, Begun, Real, endNumber}
+use Rattle.cutting.specs.Cutting.{Cut, waiting, joined, by, cutFrom, cutOf, unless, feed, feedAll, allOf, endNumber}
+use Rattle.cutting.specs.Records.{Steady, Good, AllGood, Begun, Real}
 use Rattle.cutting.specs.declared.Sign.{Sign}
 use Rattle.cutting.specs.declared.Sign.the-variants.{More, Whole, Wrong}
 use Rattle.cutting.proofs.Blocks.{cut-append}

@@ -9,13 +9,13 @@ use native.Mathlib.Omega.{arith}
 use borrow.Author.Tests.{le-ltb, ltb-false, eqb-true, not-false, eq-eqb}
 use lib.Dec.{eqb, ltb, leb, lit<, lit≤}
 use lib.ListN.{length, getD, take, drop, length-drop}
-use lib.Seq.{take-at}
 use Rattle.laws.proofs.Big.{bytes-take}
 use Rattle.laws.specs.Big.{bytesOf, bigOf, Bytes}
 use Rattle.laws.specs.Limits.{longest}
 use Rattle.laws.specs.Pick.{pick}
 use Rattle.laws.specs.Refuse.{refusedWith, Free}
 use Rattle.laws.specs.Written.{written}
+use Rattle.laws.proofs.Written.{front}
 use Rattle.laws.proofs.Refuse.{free}
 use Rattle.description.specs.declared.Description.{Description}
 use Rattle.description.specs.Bytes.{laid, fieldsIn, headBits, noStream, valueOf, entityOf, lengthsOf, slotAt, describedBy}
@@ -73,10 +73,6 @@ module _ (large : Bool) (d : Description) (mode size room : ℕ) (four : length 
       let w = well mode d four (s .well-formed) in
       let n : length (valueOf d) ≡ 1 + 3 * d .count = value-length d four (w .most) (s .bits) (w .behind) in
       rw (n, right-length (d .count) (w .one) (w .most), s .mode-bits, s .served, back, s .well-formed)
-
-front : (out xs : List ℕ) (n : ℕ) → length xs ≡ n → take n (written out 0 xs) ≡ xs
-unfolding written
-front out xs n e = take-at xs (drop (0 + length xs) out) n e
 
 -- read of write
 pub read-write : (d : Description) (mode : ℕ) (out : List ℕ) → length (d .stream) ≡ 4 → writeFor d mode out .number ≡ 0

@@ -17,13 +17,14 @@ use Rattle.laws.proofs.Big.{big-back, bytes-back, big-lt, bytes-length, bytes-t
 use Rattle.laws.proofs.Fields.{fields-number, number-fields, number-lt, fields-fit}
 use Rattle.laws.proofs.Flags.{and-l, and-r}
 use Rattle.laws.proofs.Refuse.{free, accepted}
+use Rattle.laws.proofs.Written.{front}
 use Rattle.fields.proofs.Reading.{number-in}
 use Rattle.crc.specs.Crc.{crcOf}
 use Rattle.fac.specs.declared.Fac.{Fac}
 use Rattle.fac.specs.Channel.{widths, inOrder, fromFields, bitsOf, facFrom, sealed8, facBytes, facOf, sealed, tooLarge, notServed}
 use Rattle.fac.specs.Answers.{readTests, given, readFor, writeTests, writeNumber, writeFor, outFor}
 use Rattle.fac.proofs.Fits.{fits, of-fit}
-use Rattle.fac.proofs.Ways.{writable, front}
+use Rattle.fac.proofs.Ways.{writable}
 
 -- ---- the fields and the 64 bits
 pub bits-lt : (f : Fac) → tooLarge f ≡ false → bitsOf f < 2 ^ 64

@@ -11,7 +11,8 @@ use Rattle.laws.specs.Fields.{Fit, fieldsOf}
 use Rattle.laws.proofs.Fields.{fields-fit}
 use Rattle.laws.proofs.Flags.{or-false}
 use Rattle.fac.specs.declared.Fac.{Fac}
-use Rattle.fac.specs.Channel.{widths, inOrder, exceeds, tooLarge, Channel, Service}
+use Rattle.fac.specs.Channel.{widths, inOrder, exceeds, tooLarge}
+use Rattle.fac.specs.Bounds.{ChannelFits, ServiceFits}
 
 fit-of : (ws vs : List ℕ) → length ws ≡ length vs → exceeds ws vs ≡ false → Fit ws vs
 fit-of [] [] l e = tt
@@ -31,7 +32,7 @@ module _ (f : Fac) (e : tooLarge f ≡ false) where
   unfolding tooLarge
   fits = fit-of widths (inOrder f) refl e
 
-  pub channel : Channel f
+  pub channel : ChannelFits f
   channel =
       let g = fits in
       record {
@@ -47,7 +48,7 @@ module _ (f : Fac) (e : tooLarge f ≡ false) where
         channel = g .1 .1 .1 .1 .1 .1 .1 .1 .1 .0;
       }
 
-  pub service : Service f
+  pub service : ServiceFits f
   service =
       let h = fits .1 .1 .1 .1 .1 .1 .1 .1 .1 .1 in
       record {

@@ -7,20 +7,20 @@ use native.Mathlib.Omega.{arith}
 use borrow.Author.Tests.{lt-ltb, le-ltb, le-leb, lt-leb, eq-eqb, ne-eqb, ltb-false}
 use lib.Dec.{ltb, eqb}
 use lib.ListN.{length, getD, take, drop, set}
-use lib.Seq.{take-at}
 use Rattle.laws.specs.Big.{bytesOf}
 use Rattle.laws.specs.Fields.{numberOf}
 use Rattle.laws.specs.Pick.{pick}
 use Rattle.laws.specs.Refuse.{refusedWith}
 use Rattle.laws.specs.Written.{written}
 use Rattle.laws.proofs.Big.{bytes-length}
-use Rattle.laws.proofs.Written.{store-next}
+use Rattle.laws.proofs.Written.{front, store-next}
 use Rattle.fields.specs.Numbers.{putAt}
 use Rattle.fields.proofs.Writing.{put-in}
 use Rattle.crc.specs.Crc.{crcOf}
 use Rattle.fac.specs.declared.Fac.{Fac}
 use Rattle.fac.specs.declared.Given.{Given}
-use Rattle.fac.specs.Channel.{widths, inOrder, bitsOf, sealed8, facBytes, facOf, sealed, tooLarge, notServed, Channel, Service}
+use Rattle.fac.specs.Channel.{widths, inOrder, bitsOf, sealed8, facBytes, facOf, sealed, tooLarge, notServed}
+use Rattle.fac.specs.Bounds.{ChannelFits, ServiceFits}
 use Rattle.fac.specs.Answers.{noFac, readTests, given, readFor, writeTests, writeNumber, writeFor, outFor}
 use Rattle.fac.proofs.Fits.{channel, service}
 
@@ -106,7 +106,7 @@ writable f room e =
     let p = first (tooLarge f) (notServed f) (ltb room 9) 5 8 0 e in
     (p .0, p .1, ltb-false _ _ (p .2))
 
-pub ready : (f : Fac) (room n : ℕ) → n ≡ refusedWith (writeTests f room) → n ≡ 0 → Channel f × Service f × (9 ≤ room)
+pub ready : (f : Fac) (room n : ℕ) → n ≡ refusedWith (writeTests f room) → n ≡ 0 → ChannelFits f × ServiceFits f × (9 ≤ room)
 ready f room n e z = let p = writable f room (sym e ∙ z) in (channel f (p .0), service f (p .0), p .2)
 
 module _ (f : Fac) (out : List ℕ) (n : ℕ) (e : n ≡ refusedWith (writeTests f (length out))) where
@@ -124,11 +124,6 @@ pub two-halves : (f : Fac) (a b : ℕ) → a ≡ numberOf (take 10 widths) (take
     → a * 17592186044416 + b ≡ bitsOf f
 unfolding bitsOf
 two-halves f a b ea eb = omega arith
-
--- what was written at the front
-pub front : (d xs : List ℕ) (n : ℕ) → length xs ≡ n → take n (written d 0 xs) ≡ xs
-unfolding written
-front d xs n l = take-at xs (drop (0 + length xs) d) n l
 
 pub sealed-on : (f : Fac) (out d : List ℕ) (x w : ℕ) → 9 ≤ length out → x ≡ bitsOf f → d ≡ putAt 8 out 0 x → w ≡ crcOf 8 0x1d (take 8 d)
     → set d 8 w ≡ written out 0 (facBytes f)

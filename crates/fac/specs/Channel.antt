@@ -1,5 +1,5 @@
 -- The fast access channel as a record and as the 9 bytes of a `fac_` value (01, "MDI packet", FAC; 000, 6.3). Assumes nothing.
-use Prim.Native.Nat.{ℕ, _^_, _<_}
+use Prim.Native.Nat.{ℕ, _^_}
 use mathlib.Core.Bool.{Bool, false, _||_, _&&_}
 use mathlib.Core.List.{List, [], _∷_, _++_}
 use lib.Dec.{eqb, leb}
@@ -89,29 +89,6 @@ exceeds (w ∷ ws) (v ∷ vs) = leb (2 ^ w) v || exceeds ws vs
 
 unfoldable pub tooLarge : Fac → Bool
 tooLarge f = exceeds widths (inOrder f)
-
--- fields that fit their bits: those of the channel, and those of the service
-pub record Channel (f : Fac) : Type 0 where
-  pub base : f .base < 2
-  pub identity : f .identity < 4
-  pub rm : f .rm < 2
-  pub occupancy : f .occupancy < 8
-  pub interleaver : f .interleaver < 2
-  pub msc : f .msc < 4
-  pub sdc : f .sdc < 2
-  pub services : f .services < 16
-  pub reconfiguration : f .reconfiguration < 8
-  pub channel : f .channel < 4
-
-pub record Service (f : Fac) : Type 0 where
-  pub service : f .service < 2 ^ 24
-  pub short : f .short < 4
-  pub «audio_ca» : f .«audio_ca» < 2
-  pub language : f .language < 16
-  pub «audio_data» : f .«audio_data» < 2
-  pub descriptor : f .descriptor < 32
-  pub «data_ca» : f .«data_ca» < 2
-  pub reserved : f .reserved < 64
 
 -- what is not served: base flag 1, RM flag 1, occupancy 6 or 7, MSC mode 1 or 2, number-of-services codes 1011 and 1110
 unfoldable pub notServed : Fac → Bool

@@ -7,7 +7,8 @@ ghost use lib.ListN.{length, take, drop};
 ghost use Rattle.laws.specs.Fields.{numberOf};
 ghost use Rattle.laws.specs.Refuse.{refusedWith};
 ghost use Rattle.laws.specs.Written.{written};
-ghost use Rattle.fac.specs.Channel.{widths, inOrder, Channel, Service, facFrom, facBytes, facOf, sealed, tooLarge, notServed};
+ghost use Rattle.fac.specs.Bounds.{ChannelFits, ServiceFits};
+ghost use Rattle.fac.specs.Channel.{widths, inOrder, facFrom, facBytes, facOf, sealed, tooLarge, notServed};
 ghost use Rattle.fac.specs.Answers.{noFac, readTests, readFor, writeTests, writeFor, outFor};
 
 // The fields in the order of their bits.
@@ -172,7 +173,7 @@ pub fn read(value: &[u8]) -> Given
 
 // The 20 channel bits of fields that fit.
 fn channel_bits(f: Fac) -> u64
-    requires { ⌜ Channel f ⌝ }
+    requires { ⌜ ChannelFits f ⌝ }
     ensures { λ r. ⌜ (r ≡ numberOf (take 10 widths) (take 10 (inOrder f))) × (r < 2 ^ 20) ⌝ }
 {
     f.base as u64 * 524288
@@ -189,7 +190,7 @@ fn channel_bits(f: Fac) -> u64
 
 // And the 44 service bits.
 fn service_bits(f: Fac) -> u64
-    requires { ⌜ Service f ⌝ }
+    requires { ⌜ ServiceFits f ⌝ }
     ensures { λ r. ⌜ (r ≡ numberOf (drop 10 widths) (drop 10 (inOrder f))) × (r < 2 ^ 44) ⌝ }
 {
     f.service as u64 * 1048576
@@ -204,7 +205,7 @@ fn service_bits(f: Fac) -> u64
 
 // The nine bytes of a value, at the front of the output.
 fn put(f: Fac, out: &mut [u8])
-    requires { ⌜ Channel f × Service f × (9 ≤ length (now out)) ⌝ }
+    requires { ⌜ ChannelFits f × ServiceFits f × (9 ≤ length (now out)) ⌝ }
     ensures { λ _. ⌜ now (out .exit) ≡ written (now (out .entry)) 0 (facBytes f) ⌝ }
 {
     let bits = channel_bits(f) * 17592186044416 + service_bits(f);

@@ -86,3 +86,8 @@ written-after d at xs k fits =
     ∙ ap (λ (m : ℕ). getD ((take at d ++ xs) ++ drop n d) (m + k) 0) (sym e)
     ∙ getD-append-add (take at d ++ xs) (drop n d) k 0
     ∙ getD-drop n d k 0
+
+-- what was written at the front of an output is there
+pub front : (d xs : List ℕ) (n : ℕ) → length xs ≡ n → take n (written d 0 xs) ≡ xs
+unfolding written
+front d xs n l = take-at xs (drop (0 + length xs) d) n l

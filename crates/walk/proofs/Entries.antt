@@ -12,7 +12,7 @@ use lib.Seq.{take-append-le, drop-append-le, length-take-le}
 use Rattle.laws.specs.Big.{bigOf, numberAt}
 use Rattle.laws.specs.Pick.{pick}
 use Rattle.fields.proofs.Reading.{number-in}
-use Rattle.cutting.specs.Cutting.{Steady, Good, Real}
+use Rattle.cutting.specs.Records.{Steady, Good, Real}
 use Rattle.cutting.specs.declared.Sign.{Sign}
 use Rattle.cutting.specs.declared.Sign.the-variants.{More, Whole, Wrong}
 use Rattle.cutting.proofs.Needs.{lt-or-le}

@@ -11,7 +11,8 @@ use lib.ListN.{length, take, drop, length-append, length-drop, take-append-drop}
 use lib.Seq.{length-take-le, take-append-le, take-at, drop-at, drop-drop, drop-append-le}
 use Rattle.laws.specs.Big.{bigOf, numberAt}
 use Rattle.fields.proofs.Reading.{number-in}
-use Rattle.cutting.specs.Cutting.{Cut, waiting, joined, by, cutFrom, cutOf, allOf, Good, AllGood, Begun}
+use Rattle.cutting.specs.Cutting.{Cut, waiting, joined, by, cutFrom, cutOf, allOf}
+use Rattle.cutting.specs.Records.{Good, AllGood, Begun}
 use Rattle.cutting.specs.declared.Sign.{Sign}
 use Rattle.cutting.specs.declared.Sign.the-variants.{More, Whole, Wrong}
 use Rattle.cutting.proofs.Needs.{lt-or-le, records-good}
