@@ -1,6 +1,8 @@
-// `inspect FILE`, or a recording on standard input: prints a line a packet, a line at each break in the succession, and a summary (01, "Clock
-// and recordings"). It reads blocks, hands them to the crate `report`, and writes what that gives: nothing here decides what is printed, and
-// where the blocks end makes no difference (crates/report/proofs/Prints.antt).
+// `inspect FILE`, or a recording on standard input: prints a line a packet, a line at each break in the succession, and a summary (01,
+// "Clock and recordings"). It reads blocks, hands them to the crate `report`, and writes the lines that come back: nothing here decides
+// what is printed. Proved of it: it is safe, it ends, and each call of `report` answers as that promises; and a run of those calls over all
+// blocks gives one text for a file, wherever the blocks end (`prints` in crates/report/proofs/Prints.antt). Not proved, but read here and
+// tried on recordings: that these loops make that run, each block handed over until all of it is taken, and print what each call gives.
 use libc::STDOUT_FILENO;
 use report::Report;
 
