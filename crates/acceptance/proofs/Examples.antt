@@ -21,7 +21,7 @@ unfolding examples
     lengthBytes streamBytes valueOf entityOf lengthsOf slotAt describedBy
     lengthsIn usedBy paddingOf layoutTests layoutFor tooLarge illFormed
     dispersal.outputFor dispersal.numberFor dispersal.testsFor dispersal.dispersed dispersal.dispersedFrom dispersal.next dispersal.push
-    stamps.outputFor stamps.encodeNumber stamps.encodeTests stamps.fieldTests stamps.stampBytes stamps.bitsOf stamps.given
+    stamps.outputFor stamps.encodeNumber stamps.encodeTests stamps.fieldTests stamps.stampBytes stamps.bitsOf stamps.stamped
     elapsed later nextTests nextFor
     give free giveFirst giveOne spread handOut planFor handFor unfit settingsTests settingsFor
 examples-hold = (refl, (refl, (refl, (refl, (refl, (refl, (refl, (refl, (refl, (refl, (refl, (refl, (refl, tt)))))))))))))

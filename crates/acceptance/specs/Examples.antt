@@ -3,7 +3,7 @@ use Prim.Native.Nat.{ℕ, _-_}
 use mathlib.Core.Path.{_≡_}
 use mathlib.Core.List.{List, [], _∷_}
 use lib.ListN.{replicate}
-use Rattle.clock.specs.declared.Given.{Given}
+use Rattle.clock.specs.declared.Stamped.{Stamped}
 use Rattle.clock.specs.declared.Stamp.{Stamp}
 use Rattle.clock.specs.Next.{nextFor}
 use Rattle.clock.specs.Stamps as stamps
@@ -38,7 +38,7 @@ abbrev stamp : ℕ → ℕ → ℕ → Stamp
 stamp utco seconds milliseconds = record { utco = utco; seconds = seconds; milliseconds = milliseconds }
 
 -- a number, seconds and milliseconds
-abbrev time : Given → List ℕ
+abbrev time : Stamped → List ℕ
 time g = g .number ∷ g .stamp .seconds ∷ g .stamp .milliseconds ∷ []
 
 -- of examples 9 to 12: N 10, shares 3, 3, 2, ceilings 10, 6, 10 (p, which they leave open, is 4)

@@ -14,8 +14,8 @@ use Rattle.fields.specs.Numbers.{putAt}
 use Rattle.fields.proofs.Reading.{number-in}
 use Rattle.fields.proofs.Writing.{put-in}
 use Rattle.clock.specs.declared.Stamp.{Stamp}
-use Rattle.clock.specs.declared.Given.{Given}
-use Rattle.clock.specs.Stamps.{bitsOf, fieldTests, stampBytes, encodeTests, encodeNumber, encodedFor, outputFor, stampFrom, stampOf, late, decodeTests, noStamp, given, decodedFor}
+use Rattle.clock.specs.declared.Stamped.{Stamped}
+use Rattle.clock.specs.Stamps.{bitsOf, fieldTests, stampBytes, encodeTests, encodeNumber, encodedFor, outputFor, stampFrom, stampOf, late, decodeTests, noStamp, stamped, decodedFor}
 use Rattle.clock.specs.Next.{elapsed, later, nextTests, nextFor}
 use Rattle.clock.specs.Follows.{timeFollows, utcoFollows, stampFollows, followsTests, followsFor}
 use Rattle.clock.proofs.Fit.{free-fields}
@@ -52,12 +52,12 @@ pub whole : (n : ℕ) (s : List ℕ) → length s ≡ n → numberAt n s 0 ≡ b
 whole n s l = number-in n s 0 (omega arith) ∙ ap bigOf (take-all n s (omega arith))
 
 module _ (value : List ℕ) where
-  pub decode-long : (r : Given) → 65528 < length value → r ≡ record { number = 1; stamp = noStamp } → r ≡ decodedFor value
-  unfolding decodeTests given decodedFor
+  pub decode-long : (r : Stamped) → 65528 < length value → r ≡ record { number = 1; stamp = noStamp } → r ≡ decodedFor value
+  unfolding decodeTests stamped decodedFor
   decode-long r h e = e ∙ simp (lt-ltb _ _ h)
 
-  pub decode-length : (r : Given) → length value ≤ 65528 → (length value ≡ 8 → ⊥) → r ≡ record { number = 5; stamp = noStamp } → r ≡ decodedFor value
-  unfolding decodeTests given decodedFor
+  pub decode-length : (r : Stamped) → length value ≤ 65528 → (length value ≡ 8 → ⊥) → r ≡ record { number = 5; stamp = noStamp } → r ≡ decodedFor value
+  unfolding decodeTests stamped decodedFor
   decode-length r s h e = e ∙ simp (le-ltb _ _ s, ne-eqb _ _ h)
 
   module _ (l : length value ≡ 8) (x : ℕ) (ex : x ≡ numberAt 8 value 0) (t : Stamp) (et : t ≡ stampFrom x) where
@@ -68,32 +68,32 @@ module _ (value : List ℕ) where
     short : ltb 65528 (length value) ≡ false
     short = let h : length value ≤ 65528 = omega arith in le-ltb _ _ h
 
-    pub decode-late : (r : Given) → 999 < t .milliseconds → r ≡ record { number = 6; stamp = noStamp } → r ≡ decodedFor value
-    unfolding decodeTests late given decodedFor
+    pub decode-late : (r : Stamped) → 999 < t .milliseconds → r ≡ record { number = 6; stamp = noStamp } → r ≡ decodedFor value
+    unfolding decodeTests late stamped decodedFor
     decode-late r h e = e ∙ simp (short, eq-eqb _ _ l, ← read, lt-ltb _ _ h)
 
     pub decode-done : t .milliseconds ≤ 999 → record { number = 0; stamp = t } ≡ decodedFor value
-    unfolding decodeTests late given decodedFor
+    unfolding decodeTests late stamped decodedFor
     decode-done h = simp (short, eq-eqb _ _ l, ← read, le-ltb _ _ h)
 
 -- ---- next
 
 module _ (t : Stamp) where
-  pub next-fields : (n : ℕ) (r : Given) → n ≡ refusedWith (fieldTests t) → (n ≡ 0 → ⊥) → r ≡ record { number = n; stamp = noStamp } → r ≡ nextFor t
-  unfolding nextTests given nextFor
+  pub next-fields : (n : ℕ) (r : Stamped) → n ≡ refusedWith (fieldTests t) → (n ≡ 0 → ⊥) → r ≡ record { number = n; stamp = noStamp } → r ≡ nextFor t
+  unfolding nextTests stamped nextFor
   next-fields n r e h q =
       let k : refusedWith (nextTests t) ≡ n = before (fieldTests t) _ (λ z. h (e ∙ z)) ∙ sym e in
       q ∙ simp (k, ne-eqb n 0 h)
 
   module _ (e : refusedWith (fieldTests t) ≡ 0) (s : Stamp) (es : s ≡ later t) where
-    pub next-none : (r : Given) → 1099511627776 ≤ s .seconds → r ≡ record { number = 18; stamp = noStamp } → r ≡ nextFor t
-    unfolding nextTests given nextFor
+    pub next-none : (r : Stamped) → 1099511627776 ≤ s .seconds → r ≡ record { number = 18; stamp = noStamp } → r ≡ nextFor t
+    unfolding nextTests stamped nextFor
     next-none r h q =
         let k : refusedWith (nextTests t) ≡ 18 = behind (fieldTests t) _ (free-fields t e) ∙ simp (← es, le-leb _ _ h) in
         q ∙ simp k
 
     pub next-done : s .seconds < 1099511627776 → record { number = 0; stamp = s } ≡ nextFor t
-    unfolding nextTests given nextFor
+    unfolding nextTests stamped nextFor
     next-done h =
         let k : refusedWith (nextTests t) ≡ 0 = behind (fieldTests t) _ (free-fields t e) ∙ simp (← es, lt-leb _ _ h) in
         simp (k, es)

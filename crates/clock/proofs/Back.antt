@@ -17,7 +17,7 @@ use Rattle.laws.proofs.Big.{big-back, bytes-back, big-lt, bytes-length}
 use Rattle.laws.proofs.Fields.{fields-number, number-fields, number-lt, fields-fit}
 use Rattle.laws.proofs.Refuse.{free}
 use Rattle.clock.specs.declared.Stamp.{Stamp}
-use Rattle.clock.specs.Stamps.{Within, widths, inOrder, bitsOf, stampFrom, stampBytes, stampOf, late, fieldTests, encodeTests, encodeNumber, encodedFor, outputFor, decodeTests, given, decodedFor}
+use Rattle.clock.specs.Stamps.{Within, widths, inOrder, bitsOf, stampFrom, stampBytes, stampOf, late, fieldTests, encodeTests, encodeNumber, encodedFor, outputFor, decodeTests, stamped, decodedFor}
 use Rattle.clock.proofs.Fit.{free-fields, within, fits}
 use Rattle.laws.proofs.Join.{behind, both-free}
 
@@ -89,13 +89,13 @@ module _ (t : Stamp) (out : List ℕ) where
 module _ (value : List ℕ) where
   -- read exactly if it is 8 bytes long and not late
   pub decode-takes : decodedFor value .number ≡ 0 → (length value ≡ 8) × (late value ≡ false)
-  unfolding decodedFor given decodeTests
+  unfolding decodedFor stamped decodeTests
   decode-takes e =
       let f = free (decodeTests value) (lit< tt, (lit< tt, (lit< tt, tt))) e in
       (eqb-true _ _ (not-false _ (f .1 .0)), f .1 .1 .0)
 
   pub decodes : length value ≡ 8 → late value ≡ false → decodedFor value ≡ record { number = 0; stamp = stampOf value }
-  unfolding decodedFor given decodeTests
+  unfolding decodedFor stamped decodeTests
   decodes l h = let s : length value ≤ 65528 = omega arith in simp (le-ltb _ _ s, eq-eqb _ _ l, h)
 
 -- B9, decode of encode: what is accepted for writing comes back

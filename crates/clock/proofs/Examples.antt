@@ -4,7 +4,7 @@ use mathlib.Core.Path.{_≡_, refl}
 use mathlib.Core.List.{[], _∷_}
 use Rattle.laws.specs.Big.{bytesOf, bigOf}
 use Rattle.clock.specs.declared.Stamp.{Stamp}
-use Rattle.clock.specs.Stamps.{bitsOf, stampFrom, stampBytes, stampOf, late, fieldTests, decodeTests, noStamp, given, decodedFor}
+use Rattle.clock.specs.Stamps.{bitsOf, stampFrom, stampBytes, stampOf, late, fieldTests, decodeTests, noStamp, stamped, decodedFor}
 use Rattle.clock.specs.Next.{elapsed, later, nextTests, nextFor}
 
 abbrev at : ℕ → ℕ → ℕ → Stamp
@@ -20,14 +20,14 @@ unfolding stampBytes bitsOf bytesOf
 utco-alone = refl
 
 -- 1,000 ms in a value is refused; at 2^40 - 1 seconds 599 ms has a successor and 600 ms has none
-pub thousand : decodedFor (255 ∷ 255 ∷ 255 ∷ 255 ∷ 255 ∷ 255 ∷ 255 ∷ 0xe8 ∷ []) ≡ given 6 noStamp
-unfolding decodedFor given decodeTests late stampOf stampFrom bigOf
+pub thousand : decodedFor (255 ∷ 255 ∷ 255 ∷ 255 ∷ 255 ∷ 255 ∷ 255 ∷ 0xe8 ∷ []) ≡ stamped 6 noStamp
+unfolding decodedFor stamped decodeTests late stampOf stampFrom bigOf
 thousand = refl
 
-pub last : nextFor (at 5 (2 ^ 40 - 1) 599) ≡ given 0 (at 5 (2 ^ 40 - 1) 999)
-unfolding nextFor given nextTests fieldTests later elapsed
+pub last : nextFor (at 5 (2 ^ 40 - 1) 599) ≡ stamped 0 (at 5 (2 ^ 40 - 1) 999)
+unfolding nextFor stamped nextTests fieldTests later elapsed
 last = refl
 
-pub none : nextFor (at 5 (2 ^ 40 - 1) 600) ≡ given 18 noStamp
-unfolding nextFor given nextTests fieldTests later elapsed
+pub none : nextFor (at 5 (2 ^ 40 - 1) 600) ≡ stamped 18 noStamp
+unfolding nextFor stamped nextTests fieldTests later elapsed
 none = refl

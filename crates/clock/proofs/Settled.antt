@@ -8,9 +8,9 @@ use Rattle.laws.proofs.Settle.{settled, settled-both}
 use Rattle.clock.specs.declared.Stamp.{Stamp}
 use Rattle.clock.specs.Stamps.{fieldTests, encodedFor, outputFor, decodedFor}
 use Rattle.moves.specs.declared.Wrote.{Wrote}
-use Rattle.clock.specs.declared.Given.{Given}
+use Rattle.clock.specs.declared.Stamped.{Stamped}
 use Rattle.clock.specs.Next.{nextFor}
-use Rattle.clock.specs.declared.Verdict.{Verdict}
+use Rattle.clock.specs.declared.Judged.{Judged}
 use Rattle.clock.specs.Follows.{followsFor}
 
 -- an input is the timestamp, and for `encode` the output before the call
@@ -20,11 +20,11 @@ check = settled (λ t. refusedWith (fieldTests t))
 pub encode : Settles (λ (i : Stamp × List ℕ) (o : Wrote × List ℕ). (o .0 ≡ encodedFor (i .0) (i .1)) × (o .1 ≡ outputFor (i .0) (i .1)))
 encode = settled-both (λ i. encodedFor (i .0) (i .1)) (λ i. outputFor (i .0) (i .1))
 
-pub decode : Settles (λ (value : List ℕ) (r : Given). r ≡ decodedFor value)
+pub decode : Settles (λ (value : List ℕ) (r : Stamped). r ≡ decodedFor value)
 decode = settled decodedFor
 
-pub next : Settles (λ (t : Stamp) (r : Given). r ≡ nextFor t)
+pub next : Settles (λ (t : Stamp) (r : Stamped). r ≡ nextFor t)
 next = settled nextFor
 
-pub follows : Settles (λ (i : Stamp × Stamp) (r : Verdict). r ≡ followsFor (i .0) (i .1))
+pub follows : Settles (λ (i : Stamp × Stamp) (r : Judged). r ≡ followsFor (i .0) (i .1))
 follows = settled (λ i. followsFor (i .0) (i .1))

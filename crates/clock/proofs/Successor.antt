@@ -12,8 +12,8 @@ use Rattle.laws.specs.Pick.{pick}
 use Rattle.laws.specs.Refuse.{test, refusedWith}
 use Rattle.laws.proofs.Refuse.{accepted}
 use Rattle.clock.specs.declared.Stamp.{Stamp}
-use Rattle.clock.specs.declared.Given.{Given}
-use Rattle.clock.specs.Stamps.{Within, fieldTests, given}
+use Rattle.clock.specs.declared.Stamped.{Stamped}
+use Rattle.clock.specs.Stamps.{Within, fieldTests, stamped}
 use Rattle.clock.specs.Next.{elapsed, later, nextTests, nextFor}
 use Rattle.clock.specs.Follows.{timeFollows, utcoFollows, stampFollows, followsTests, followsFor}
 use Rattle.clock.proofs.Fit.{free-fields, within, fits}
@@ -23,13 +23,13 @@ use Rattle.clock.proofs.Later.{exactly-later, same-utco, later-is}
 module _ (t : Stamp) where
   -- given exactly if the fields fit and so do the later seconds
   pub next-takes : nextFor t .number ≡ 0 → Within t × (later t .seconds < 2 ^ 40)
-  unfolding nextFor given nextTests fieldTests
+  unfolding nextFor stamped nextTests fieldTests
   next-takes e =
       let p = both-free (fieldTests t) (test (leb (2 ^ 40) (later t .seconds)) 18 ∷ []) (lit< tt, (lit< tt, (lit< tt, (lit< tt, tt)))) e in
       (within t (p .0), leb-false _ _ (p .1 .0))
 
   pub next-is : Within t → later t .seconds < 2 ^ 40 → nextFor t ≡ record { number = 0; stamp = later t }
-  unfolding nextFor given nextTests
+  unfolding nextFor stamped nextTests
   next-is w h =
       let k : refusedWith (nextTests t) ≡ 0 = behind (fieldTests t) _ (free-fields t (fits t w)) ∙ simp (lt-leb _ _ h) in
       simp k
@@ -85,8 +85,8 @@ module _ (a b : Stamp) where
   pub next-follows : nextFor a ≡ record { number = 0; stamp = b } → followsFor a b ≡ record { number = 0; yes = true }
   unfolding stampFollows timeFollows utcoFollows
   next-follows e =
-      let z : nextFor a .number ≡ 0 = ap (λ (g : Given). g .number) e in
-      let s : nextFor a .stamp ≡ b = ap (λ (g : Given). g .stamp) e in
+      let z : nextFor a .number ≡ 0 = ap (λ (g : Stamped). g .number) e in
+      let s : nextFor a .stamp ≡ b = ap (λ (g : Stamped). g .stamp) e in
       let h : elapsed b ≡ elapsed a + 400 = rw s at (next-later a z .0) in
       let u : b .utco ≡ a .utco = rw s at (next-later a z .1) in
       follows-is (next-takes a z .0) (subst Within s (next-within a z)) ∙ simp (eq-eqb _ _ h, eq-eqb _ _ u)
@@ -97,4 +97,4 @@ module _ (a b : Stamp) where
     where
       go : (y : Bool) → followsFor a b .yes ≡ y → y ≡ false
       go false q = refl
-      go true q = let z : _≡_ {A = ℕ} 0 18 = sym (ap (λ (g : Given). g .number) (follows-next q)) ∙ e in absurd (omega arith)
+      go true q = let z : _≡_ {A = ℕ} 0 18 = sym (ap (λ (g : Stamped). g .number) (follows-next q)) ∙ e in absurd (omega arith)

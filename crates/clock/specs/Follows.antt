@@ -6,7 +6,7 @@ use lib.Dec.{eqb}
 use Rattle.laws.specs.Pick.{pick}
 use Rattle.laws.specs.Refuse.{Test, refusedWith}
 use Rattle.clock.specs.declared.Stamp.{Stamp}
-use Rattle.clock.specs.declared.Verdict.{Verdict}
+use Rattle.clock.specs.declared.Judged.{Judged}
 use Rattle.clock.specs.Next.{elapsed}
 use Rattle.clock.specs.Stamps.{fieldTests}
 
@@ -25,6 +25,6 @@ stampFollows a b = timeFollows a b && utcoFollows a b
 unfoldable pub followsTests : Stamp → Stamp → List Test
 followsTests a b = fieldTests a ++ fieldTests b
 
-unfoldable pub followsFor : Stamp → Stamp → Verdict
+unfoldable pub followsFor : Stamp → Stamp → Judged
 followsFor a b =
     let n = refusedWith (followsTests a b) in record { number = n; yes = pick (eqb n 0) (stampFollows a b) false }

@@ -4,8 +4,8 @@ use mathlib.Core.List.{List, [], _∷_, _++_}
 use lib.Dec.{leb}
 use Rattle.laws.specs.Refuse.{Test, test, refusedWith}
 use Rattle.clock.specs.declared.Stamp.{Stamp}
-use Rattle.clock.specs.declared.Given.{Given}
-use Rattle.clock.specs.Stamps.{fieldTests, given}
+use Rattle.clock.specs.declared.Stamped.{Stamped}
+use Rattle.clock.specs.Stamps.{fieldTests, stamped}
 
 -- milliseconds since the seconds began to count
 unfoldable pub elapsed : Stamp → ℕ
@@ -19,5 +19,5 @@ later t = let n = elapsed t + 400 in record { utco = t .utco; seconds = n / 1000
 unfoldable pub nextTests : Stamp → List Test
 nextTests t = fieldTests t ++ (test (leb (2 ^ 40) (later t .seconds)) 18 ∷ [])
 
-unfoldable pub nextFor : Stamp → Given
-nextFor t = given (refusedWith (nextTests t)) (later t)
+unfoldable pub nextFor : Stamp → Stamped
+nextFor t = stamped (refusedWith (nextTests t)) (later t)

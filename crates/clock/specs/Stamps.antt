@@ -13,7 +13,7 @@ use Rattle.laws.specs.Written.{written}
 use Rattle.clock.specs.declared.Stamp.{Stamp}
 use Rattle.moves.specs.declared.Wrote.{Wrote}
 use Rattle.moves.specs.Wrote.{wroteOf}
-use Rattle.clock.specs.declared.Given.{Given}
+use Rattle.clock.specs.declared.Stamped.{Stamped}
 
 -- the item's fields, in its order
 abbrev pub widths : List ℕ
@@ -75,8 +75,8 @@ decodeTests value = test (ltb longest (length value)) 1 ∷ test (not (eqb (leng
 abbrev pub noStamp : Stamp
 noStamp = record { utco = 0; seconds = 0; milliseconds = 0 }
 
-unfoldable pub given : ℕ → Stamp → Given
-given n t = record { number = n; stamp = pick (eqb n 0) t noStamp }
+unfoldable pub stamped : ℕ → Stamp → Stamped
+stamped n t = record { number = n; stamp = pick (eqb n 0) t noStamp }
 
-unfoldable pub decodedFor : List ℕ → Given
-decodedFor value = given (refusedWith (decodeTests value)) (stampOf value)
+unfoldable pub decodedFor : List ℕ → Stamped
+decodedFor value = stamped (refusedWith (decodeTests value)) (stampOf value)

@@ -15,12 +15,12 @@ pub struct Stamp {
 }
 
 // The answer of a call that gives a timestamp: all zeros where it refuses.
-pub struct Given {
+pub struct Stamped {
     pub number: u32,
     pub stamp: Stamp,
 }
 
-pub struct Verdict {
+pub struct Judged {
     pub number: u32,
     pub yes: bool,
 }
@@ -82,7 +82,7 @@ fn stamp_of(bits: u64) -> Stamp
 }
 
 // Reads the value of a `tist` item. Refused with 1 (over 65,528 bytes), 5, 6.
-pub fn decode(value: &[u8]) -> Given
+pub fn decode(value: &[u8]) -> Stamped
     ensures { λ r. ⌜ r ≡ decodedFor (now (value .entry)) ⌝ }
 {
     if 65528 < value.len() {
@@ -95,10 +95,10 @@ pub fn decode(value: &[u8]) -> Given
     if 999 < stamp.milliseconds {
         return refused(6);
     }
-    Given { number: 0, stamp }
+    Stamped { number: 0, stamp }
 }
 
-fn refused(number: u32) -> Given
+fn refused(number: u32) -> Stamped
     ensures { λ r. ⌜ r ≡ record { number = number; stamp = noStamp } ⌝ }
 {
     let stamp = Stamp {
@@ -106,7 +106,7 @@ fn refused(number: u32) -> Given
         seconds: 0,
         milliseconds: 0,
     };
-    Given { number, stamp }
+    Stamped { number, stamp }
 }
 
 // 400 ms later; a second more from 600 ms on.
@@ -129,7 +129,7 @@ fn step(t: Stamp) -> Stamp
 }
 
 // The timestamp 400 ms later. 18: its seconds do not fit 40 bits.
-pub fn next(t: Stamp) -> Given
+pub fn next(t: Stamp) -> Stamped
     ensures { λ r. ⌜ r ≡ nextFor t ⌝ }
 {
     let number = check(t);
@@ -140,34 +140,34 @@ pub fn next(t: Stamp) -> Given
     if 1099511627776 <= stamp.seconds {
         return refused(18);
     }
-    Given { number: 0, stamp }
+    Stamped { number: 0, stamp }
 }
 
 // Whether b follows a. The UTCO is compared by itself, as the time is.
-pub fn follows(a: Stamp, b: Stamp) -> Verdict
+pub fn follows(a: Stamp, b: Stamp) -> Judged
     ensures { λ r. ⌜ r ≡ followsFor a b ⌝ }
 {
     let first = check(a);
     if first != 0 {
-        return Verdict {
+        return Judged {
             number: first,
             yes: false,
         };
     }
     let second = check(b);
     if second != 0 {
-        return Verdict {
+        return Judged {
             number: second,
             yes: false,
         };
     }
     if b.utco != a.utco {
-        return Verdict {
+        return Judged {
             number: 0,
             yes: false,
         };
     }
-    Verdict {
+    Judged {
         number: 0,
         yes: total(b) == total(a) + 400,
     }

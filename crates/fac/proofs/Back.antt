@@ -22,7 +22,7 @@ use Rattle.fields.proofs.Reading.{number-in}
 use Rattle.crc.specs.Crc.{crcOf}
 use Rattle.fac.specs.declared.Fac.{Fac}
 use Rattle.fac.specs.Channel.{widths, inOrder, fromFields, bitsOf, facFrom, sealed8, facBytes, facOf, sealed, tooLarge, notServed}
-use Rattle.fac.specs.Answers.{readTests, given, readFor, writeTests, writeNumber, writeFor, outFor}
+use Rattle.fac.specs.Answers.{readTests, announced, readFor, writeTests, writeNumber, writeFor, outFor}
 use Rattle.fac.proofs.Fits.{fits, of-fit}
 use Rattle.fac.proofs.Ways.{writable}
 
@@ -96,13 +96,13 @@ value-back v b n e =
 module _ (v : List ℕ) where
   -- read exactly if it is 9 bytes long, sealed and served
   pub read-takes : readFor v .number ≡ 0 → (length v ≡ 9) × (sealed v ≡ true) × (notServed (facOf v) ≡ false)
-  unfolding readFor given readTests
+  unfolding readFor announced readTests
   read-takes e =
       let f = free (readTests v) (lit< tt, (lit< tt, (lit< tt, (lit< tt, tt)))) e in
       (eqb-true _ _ (not-false _ (f .1 .0)), not-false _ (f .1 .1 .0), f .1 .1 .1 .0)
 
   pub reads : length v ≡ 9 → sealed v ≡ true → notServed (facOf v) ≡ false → readFor v ≡ record { number = 0; fac = facOf v }
-  unfolding readFor given readTests
+  unfolding readFor announced readTests
   reads l s u = let h : length v ≤ 65528 = omega arith in simp (le-ltb _ _ h, eq-eqb _ _ l, s, u)
 
 -- written exactly if every field fits, the channel is served and the output has 9 bytes

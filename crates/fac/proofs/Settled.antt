@@ -8,11 +8,11 @@ use Rattle.laws.specs.Settle.{Settles}
 use Rattle.laws.proofs.Settle.{settled, settled-both}
 use Rattle.fac.specs.Answers.{readFor, outFor, writeFor}
 use Rattle.fac.specs.declared.Fac.{Fac}
-use Rattle.fac.specs.declared.Given.{Given}
+use Rattle.fac.specs.declared.Announced.{Announced}
 use Rattle.moves.specs.declared.Wrote.{Wrote}
 use Rattle.fac.specs.Channel.{facOf, sealed, tooLarge, notServed}
 
-pub read : Settles (λ (v : List ℕ) (r : Given). r ≡ readFor v)
+pub read : Settles (λ (v : List ℕ) (r : Announced). r ≡ readFor v)
 read = settled readFor
 
 pub write : Settles (λ (i : Fac × List ℕ) (o : Wrote × List ℕ). (o .0 ≡ writeFor (i .0) (length (i .1))) × (o .1 ≡ outFor (i .0) (i .1)))

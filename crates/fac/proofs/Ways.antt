@@ -18,10 +18,10 @@ use Rattle.fields.specs.Numbers.{putAt}
 use Rattle.fields.proofs.Writing.{put-in}
 use Rattle.crc.specs.Crc.{crcOf}
 use Rattle.fac.specs.declared.Fac.{Fac}
-use Rattle.fac.specs.declared.Given.{Given}
+use Rattle.fac.specs.declared.Announced.{Announced}
 use Rattle.fac.specs.Channel.{widths, inOrder, bitsOf, sealed8, facBytes, facOf, sealed, tooLarge, notServed}
 use Rattle.fac.specs.Bounds.{ChannelFits, ServiceFits}
-use Rattle.fac.specs.Answers.{noFac, readTests, given, readFor, writeTests, writeNumber, writeFor, outFor}
+use Rattle.fac.specs.Answers.{noFac, readTests, announced, readFor, writeTests, writeNumber, writeFor, outFor}
 use Rattle.fac.proofs.Fits.{channel, service}
 
 -- ---- the seal
@@ -61,12 +61,12 @@ module _ (v : List ℕ) where
 pub ruleset reading = (read-1, read-5, read-7, read-9, read-0)
 
 module _ (v : List ℕ) (n : ℕ) (e : n ≡ refusedWith (readTests v)) where
-  pub read-refused : (n ≡ 0 → ⊥) → (r : Given) → r ≡ record { number = n; fac = noFac } → r ≡ readFor v
-  unfolding readFor given
+  pub read-refused : (n ≡ 0 → ⊥) → (r : Announced) → r ≡ record { number = n; fac = noFac } → r ≡ readFor v
+  unfolding readFor announced
   read-refused z r h = h ∙ rw (← e, ne-eqb n 0 z)
 
   pub read-done : n ≡ 0 → (f : Fac) → f ≡ facOf v → record { number = 0; fac = f } ≡ readFor v
-  unfolding readFor given
+  unfolding readFor announced
   read-done z f h = rw (← e, z, h)
 
 pub ruleset answering = (read-refused, read-done)

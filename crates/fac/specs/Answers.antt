@@ -9,7 +9,7 @@ use Rattle.laws.specs.Pick.{pick}
 use Rattle.laws.specs.Refuse.{Test, test, refusedWith}
 use Rattle.laws.specs.Written.{written}
 use Rattle.fac.specs.declared.Fac.{Fac}
-use Rattle.fac.specs.declared.Given.{Given}
+use Rattle.fac.specs.declared.Announced.{Announced}
 use Rattle.moves.specs.declared.Wrote.{Wrote}
 use Rattle.moves.specs.Wrote.{wroteOf}
 use Rattle.fac.specs.Channel.{fromFields, facBytes, facOf, sealed, tooLarge, notServed}
@@ -27,11 +27,11 @@ readTests value =
 abbrev pub noFac : Fac
 noFac = fromFields []
 
-unfoldable pub given : ℕ → Fac → Given
-given n f = record { number = n; fac = pick (eqb n 0) f noFac }
+unfoldable pub announced : ℕ → Fac → Announced
+announced n f = record { number = n; fac = pick (eqb n 0) f noFac }
 
-unfoldable pub readFor : List ℕ → Given
-readFor value = given (refusedWith (readTests value)) (facOf value)
+unfoldable pub readFor : List ℕ → Announced
+readFor value = announced (refusedWith (readTests value)) (facOf value)
 
 -- ---- writing a record, to an output of room bytes
 unfoldable pub writeTests : Fac → ℕ → List Test

@@ -34,7 +34,7 @@ pub struct Fac {
 }
 
 // The answer of a call that reads: all zeros where it refuses.
-pub struct Given {
+pub struct Announced {
     pub number: u32,
     pub fac: Fac,
 }
@@ -114,7 +114,7 @@ pub fn not_served(f: Fac) -> bool
         | ((f.services == 11) | (f.services == 14))
 }
 
-fn refused(number: u32) -> Given
+fn refused(number: u32) -> Announced
     ensures { λ r. ⌜ r ≡ record { number = number; fac = noFac } ⌝ }
 {
     let fac = Fac {
@@ -137,7 +137,7 @@ fn refused(number: u32) -> Given
         data_ca: 0,
         reserved: 0,
     };
-    Given { number, fac }
+    Announced { number, fac }
 }
 
 // Why a value is not read; 0 where it is.
@@ -160,7 +160,7 @@ fn read_number(value: &[u8]) -> u32
 }
 
 // Reads the value of a `fac_` item. Refused with 1 (over 65,528 bytes), 5 (not 9 bytes), 7 (CRC), 9 (not served).
-pub fn read(value: &[u8]) -> Given
+pub fn read(value: &[u8]) -> Announced
     ensures { λ r. ⌜ r ≡ readFor (now (value .entry)) ⌝ }
 {
     let number = read_number(value);
@@ -168,7 +168,7 @@ pub fn read(value: &[u8]) -> Given
         return refused(number);
     }
     let fac = of_value(value);
-    Given { number: 0, fac }
+    Announced { number: 0, fac }
 }
 
 // The 20 channel bits of fields that fit.

@@ -11,7 +11,7 @@ use Rattle.laws.specs.Pick.{pick}
 use Rattle.laws.specs.Big.{bigOf, numberAt, Bytes}
 use Rattle.laws.proofs.Big.{bytes-take}
 use Rattle.clock.specs.Stamps.{decodedFor}
-use Rattle.clock.specs.declared.Given.{Given}
+use Rattle.clock.specs.declared.Stamped.{Stamped}
 use Rattle.description.specs.Bytes.{saidOf, describedBy}
 use Rattle.description.specs.WellFormed.{illFormed}
 use Rattle.description.specs.declared.Description.{Description}
@@ -65,7 +65,7 @@ unfolding knownMode
 mode-none [] h = refl
 mode-none (x ∷ v) h = absurd (omega arith)
 
-pub time-is : (v : List ℕ) (g : Given) → g ≡ decodedFor v → not (eqb (g .number) 6) ≡ onTime v
+pub time-is : (v : List ℕ) (g : Stamped) → g ≡ decodedFor v → not (eqb (g .number) 6) ≡ onTime v
 unfolding onTime
 time-is v g e = rw e refl
 

@@ -9,7 +9,7 @@ use lib.ListN.{length, getD}
 use Rattle.laws.specs.Big.{numberAt}
 use Rattle.laws.specs.Refuse.{refusedWith, refusedAt}
 use Rattle.clock.specs.Stamps.{decodedFor}
-use Rattle.clock.specs.declared.Given as clocked
+use Rattle.clock.specs.declared.Stamped as clocked
 use Rattle.description.specs.Bytes.{describedBy}
 use Rattle.description.specs.declared.Description.{Description}
 use Rattle.fac.specs.Channel.{facOf}
@@ -53,10 +53,10 @@ module _ (S : List ℕ) (x : Spot) (e : x ≡ spotOf (find tist (cutOf S .items)
   pub time-none : x .start ≡ 0 → Absent ≡ timeOf (find tist (cutOf S .items))
   time-none h = time-away (find tist (cutOf S .items)) (sym (ap (λ (y : Spot). y .start) e) ∙ h)
 
-  pub time-some : (x .start ≡ 0 → ⊥) → (v : List ℕ) → v ≡ shownAt S x → (g : clocked.Given) → g ≡ decodedFor v → Given (g .stamp) ≡ timeOf (find tist (cutOf S .items))
+  pub time-some : (x .start ≡ 0 → ⊥) → (v : List ℕ) → v ≡ shownAt S x → (g : clocked.Stamped) → g ≡ decodedFor v → Given (g .stamp) ≡ timeOf (find tist (cutOf S .items))
   time-some h v q g r =
       let k : v ≡ valueOf (find tist (cutOf S .items)) = q ∙ ap (shownAt S) e ∙ value-is S tist in
-      ap (λ (y : clocked.Given). Given (y .stamp)) (r ∙ ap decodedFor k)
+      ap (λ (y : clocked.Stamped). Given (y .stamp)) (r ∙ ap decodedFor k)
       ∙ time-given (find tist (cutOf S .items)) (λ z. h (ap (λ (y : Spot). y .start) e ∙ z))
 
 -- ---- the record

@@ -12,7 +12,7 @@ use Rattle.laws.specs.Big.{numberAt}
 use Rattle.laws.specs.Limits.{longest}
 use Rattle.laws.specs.Pick.{pick}
 use Rattle.laws.proofs.Flags.{both, or-false}
-use Rattle.clock.specs.Stamps.{stampOf, late, decodeTests, given, decodedFor}
+use Rattle.clock.specs.Stamps.{stampOf, late, decodeTests, stamped, decodedFor}
 use Rattle.description.specs.Bytes.{describedBy}
 use Rattle.description.specs.WellFormed as described
 use Rattle.description.specs.WellFormed.{illFormed}
@@ -161,7 +161,7 @@ sdc-length b v l (inr h) = let a = h .0 in inr (omega arith)
 
 -- a value of eight bytes is refused with 6 exactly if it is late
 time-is : (v : List ℕ) → length v ≡ 8 → eqb (decodedFor v .number) 6 ≡ late v
-unfolding decodedFor given decodeTests
+unfolding decodedFor stamped decodeTests
 time-is v l = let n : length v ≤ longest = omega arith in rw (le-ltb longest (length v) n, eq-eqb (length v) 8 l) (go (late v))
   where
     go : (t : Bool) → eqb (pick t 6 0) 6 ≡ t

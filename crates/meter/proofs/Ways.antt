@@ -5,7 +5,7 @@ use mathlib.Core.List.{List, [], _∷_}
 use native.Mathlib.Omega.{arith}
 use lib.ListN.{length, getD, List·getD-eq-default}
 use Rattle.clock.specs.Stamps.{decodedFor}
-use Rattle.clock.specs.declared.Given as clocked
+use Rattle.clock.specs.declared.Stamped as clocked
 use Rattle.description.specs.Bytes.{describedBy}
 use Rattle.description.specs.declared.Description.{Description}
 use Rattle.fac.specs.Channel.{facOf}
@@ -27,7 +27,7 @@ pub seen-is : (p : List ℕ) (at : ℕ) (a : Answer) → a ≡ readFor p → (b 
 unfolding seenIn
 seen-is p at a e b q = rw (q, e) refl
 
-pub made-is : (count mode : ℕ) (A B C D : List ℕ) (f : Fac) (s : Sdc) (x : Description) (g : clocked.Given)
+pub made-is : (count mode : ℕ) (A B C D : List ℕ) (f : Fac) (s : Sdc) (x : Description) (g : clocked.Stamped)
     → f ≡ facOf A → s ≡ sdcOf B → x ≡ describedBy C → g ≡ decodedFor D
     → _≡_ {A = Record} (record { count = count; fac = f; sdc = s; description = x; robustness = mode; time = Given (g .stamp) }) (recordFor count A B C mode D)
 unfolding recordFor

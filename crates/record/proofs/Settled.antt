@@ -3,7 +3,7 @@
 use mathlib.Core.Path.{_≡_}
 use Rattle.laws.specs.Settle.{Settles}
 use Rattle.laws.proofs.Settle.{settled}
-use Rattle.clock.specs.declared.Verdict.{Verdict}
+use Rattle.clock.specs.declared.Judged.{Judged}
 use Rattle.record.specs.declared.Record.{Record}
 use Rattle.record.specs.Records.{noRecord}
 use Rattle.record.specs.Succession.{followsFor}
@@ -11,5 +11,5 @@ use Rattle.record.specs.Succession.{followsFor}
 pub none : Settles (λ (i : Unit {0}) (r : Record). r ≡ noRecord)
 none = settled (λ i. noRecord)
 
-pub follows : Settles (λ (i : Record × Record) (r : Verdict). r ≡ followsFor (i .0) (i .1))
+pub follows : Settles (λ (i : Record × Record) (r : Judged). r ≡ followsFor (i .0) (i .1))
 follows = settled (λ i. followsFor (i .0) (i .1))

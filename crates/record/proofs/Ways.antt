@@ -9,7 +9,7 @@ use Rattle.laws.specs.Refuse.{refusedWith, Real, Free}
 use Rattle.laws.proofs.Join.{before, behind}
 use Rattle.laws.proofs.Refuse.{free}
 use Rattle.clock.specs.declared.Stamp.{Stamp}
-use Rattle.clock.specs.declared.Verdict.{Verdict}
+use Rattle.clock.specs.declared.Judged.{Judged}
 use Rattle.clock.specs.Follows as stamps
 use Rattle.clock.specs.Stamps.{fieldTests}
 use Rattle.record.specs.declared.Record.{Record}
@@ -29,7 +29,7 @@ pub before-none : (a : Stamp) (t : Time) → t ≡ Absent → true ≡ stampBefo
 unfolding stampBefore
 before-none a t e = rw e refl
 
-pub before-given : (a : Stamp) (t : Time) (b : Stamp) (v : Verdict) → t ≡ Given b → v ≡ stamps.followsFor a b → v .yes ≡ stampBefore a t
+pub before-given : (a : Stamp) (t : Time) (b : Stamp) (v : Judged) → t ≡ Given b → v ≡ stamps.followsFor a b → v .yes ≡ stampBefore a t
 unfolding stampBefore
 before-given a t b v e h = rw (e, h) refl
 

@@ -8,7 +8,7 @@ use lib.Dec.{eqb}
 use Rattle.laws.specs.Pick.{pick}
 use Rattle.laws.specs.Refuse.{Test, refusedWith}
 use Rattle.clock.specs.declared.Stamp.{Stamp}
-use Rattle.clock.specs.declared.Verdict.{Verdict}
+use Rattle.clock.specs.declared.Judged.{Judged}
 use Rattle.clock.specs.Follows as stamps
 use Rattle.clock.specs.Stamps.{fieldTests}
 use Rattle.clock.specs.Next.{nextFor}
@@ -37,7 +37,7 @@ timeTests (Given a) = fieldTests a
 unfoldable pub testsFor : Record → Record → List Test
 testsFor a b = timeTests (a .time) ++ timeTests (b .time)
 
-unfoldable pub followsFor : Record → Record → Verdict
+unfoldable pub followsFor : Record → Record → Judged
 followsFor a b =
     let number = refusedWith (testsFor a b) in
     record { number = number; yes = pick (eqb number 0) (countFollows (a .count) (b .count) && timesFollow (a .time) (b .time)) false }

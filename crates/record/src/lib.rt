@@ -1,7 +1,7 @@
 // What an MDI packet says (01, "MDI packet"), but for its streams: content only, so that a record read and written again reads as the
 // same record. What the packet does not have is a case of its own. And which record follows which (01, "Clock and recordings").
+use clock::Judged;
 use clock::Stamp;
-use clock::Verdict;
 ghost use mathlib.Core.Path.{_≡_};
 ghost use Rattle.laws.specs.Refuse.{refusedWith};
 ghost use Rattle.record.specs.Records.{noRecord};
@@ -71,27 +71,27 @@ fn times_follow(s: Time, t: Time) -> bool
 
 // Whether the second packet follows the first: by its count and, where both have a timestamp, by these. Refused with 6: a field of either
 // timestamp.
-pub fn follows(a: Record, b: Record) -> Verdict
+pub fn follows(a: Record, b: Record) -> Judged
     ensures { λ r. ⌜ r ≡ followsFor a b ⌝ }
 {
     let s = a.time;
     let t = b.time;
     let first = number_of(s);
     if first != 0 {
-        return Verdict {
+        return Judged {
             number: first,
             yes: false,
         };
     }
     let second = number_of(t);
     if second != 0 {
-        return Verdict {
+        return Judged {
             number: second,
             yes: false,
         };
     }
     let next = std::num::wrapping_add_u32(a.count, 1);
-    Verdict {
+    Judged {
         number: 0,
         yes: (b.count == next) & times_follow(s, t),
     }
