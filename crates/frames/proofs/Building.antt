@@ -1,6 +1,6 @@
 -- A frame as it is built: what its tests say of the streams, and what the call answers and leaves. Assumes nothing.
 use mathlib.Core.Path.{_≡_, refl, sym, ap, ap₂, _∙_, subst}
-use mathlib.Core.List.{List, [], _∷_, _++_, map}
+use mathlib.Core.List.{List, [], _∷_, _++_}
 use Prim.Native.Nat.{ℕ, _+_, _-_, _≤_}
 use native.Mathlib.Omega.{arith}
 use borrow.Author.Tests.{ltb-false, not-false, ne-eqb}
@@ -12,25 +12,19 @@ use Rattle.laws.proofs.Refuse.{free}
 use Rattle.laws.proofs.Written.{write-next}
 use Rattle.moves.specs.Moves.{Puts}
 use Rattle.moves.proofs.Pieces.{puts-then}
-use Rattle.description.specs.declared.Lengths.{Lengths}
 use Rattle.description.specs.declared.Description.{Description}
 use Rattle.description.specs.Bytes.{saidOf}
 use Rattle.description.specs.Answers.{handed}
 use Rattle.places.specs.Parts.{usedBy}
 use Rattle.description.proofs.Filled.{filled-each}
-use Rattle.description.proofs.Tests.{four}
 use Rattle.places.proofs.Placing.{used-is}
-use Rattle.frames.specs.Frames.{partsA, partsB, joined, frameOf, sizes, buildTests, buildNumber, buildFor, frameFor}
+use Rattle.frames.specs.Frames.{partsA, partsB, joined, frameOf, buildTests, buildNumber, buildFor, frameFor}
 use Rattle.frames.specs.Ready.{slot, allA, allB, Ready}
 use Rattle.frames.proofs.Putting.{joined-append}
 
 pub all-used : (d : Description) → length (d .stream) ≡ 4 → allA d + allB d ≡ usedBy d
 all-used d n =
     used-is d n (slot d 0 .a) (slot d 1 .a) (slot d 2 .a) (slot d 3 .a) (slot d 0 .b) (slot d 1 .b) (slot d 2 .b) (slot d 3 .b) refl refl refl refl refl refl refl refl
-
-pub sizes-four : (d : Description) → length (d .stream) ≡ 4
-    → sizes d ≡ saidOf d 0 ∷ saidOf d 1 ∷ saidOf d 2 ∷ saidOf d 3 ∷ []
-sizes-four d n = ap (λ (s : List Lengths). map (λ l. l .a + l .b) s) (four (d .stream) n)
 
 module _ (capacity : ℕ) (d : Description) (mode : ℕ) (s0 s1 s2 s3 : List ℕ) (room n : ℕ) (size : length (d .stream) ≡ 4)
     (e : n ≡ refusedWith (buildTests capacity d mode (length s0 ∷ length s1 ∷ length s2 ∷ length s3 ∷ []) room)) where

@@ -24,7 +24,8 @@ use Rattle.places.proofs.Placing.{parts-are}
 use Rattle.description.proofs.Writing.{neither}
 use Rattle.frames.specs.Frames.{bytesIn, streamIn, sizes, anyLess, cutTests, cutNumber, cutFor, streamFor}
 use Rattle.frames.specs.Ready.{slot, allA, allB}
-use Rattle.frames.proofs.Building.{all-used, sizes-four}
+use Rattle.frames.proofs.Building.{all-used}
+use Rattle.frames.proofs.Ways.{sizes-four}
 
 -- two parts of a frame, copied one behind the other
 pub taken-out : (frame d e f : List ℕ) (x y : Part) (r : ℕ) → x .at + x .len ≤ length frame → y .at + y .len ≤ length frame → x .len + y .len ≤ length d

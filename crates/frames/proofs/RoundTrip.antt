@@ -23,7 +23,8 @@ use Rattle.description.proofs.Tests.{four}
 use Rattle.description.proofs.Writing.{neither}
 use Rattle.frames.specs.Frames.{eachOf, partsA, partsB, joined, frameOf, bytesIn, streamIn, anyLong, anyLess, buildTests, buildNumber, buildFor, frameFor, cutTests, cutNumber, cutFor, streamFor}
 use Rattle.frames.specs.Ready.{slot, allA, allB, Ready}
-use Rattle.frames.proofs.Building.{all-used, sizes-four, ready-of}
+use Rattle.frames.proofs.Building.{all-used, ready-of}
+use Rattle.frames.proofs.Ways.{sizes-four}
 use Rattle.frames.proofs.Cutting.{eight, parts-eight, within}
 
 -- pieces, one behind the other from a place on: the parts of their lengths cut them out again, whatever stands behind

@@ -6,13 +6,14 @@ use places::Part;
 ghost use mathlib.Core.Path.{_≡_};
 ghost use mathlib.Core.List.{[], _∷_, _++_};
 ghost use Prim.Native.Nat.{_+_, _-_, _≤_};
-ghost use lib.ListN.{length, take, drop, replicate};
+ghost use mathlib.Core.Bool.{_||_, _&&_};
+ghost use lib.Dec.{eqb, ltb};
+ghost use lib.ListN.{length, getD, take, drop, replicate};
 ghost use Rattle.laws.specs.Refuse.{refusedWith};
 ghost use Rattle.laws.specs.Written.{written};
-ghost use Rattle.description.specs.Bytes.{filled};
 ghost use Rattle.moves.specs.Moves.{Puts};
 ghost use Rattle.frames.specs.Ready.{allA, allB, Ready};
-ghost use Rattle.frames.specs.Frames.{partsA, partsB, joined, bytesIn, anyLess, sizes, buildTests, buildFor, frameFor, cutTests, cutFor, streamFor};
+ghost use Rattle.frames.specs.Frames.{partsA, partsB, joined, bytesIn, sizes, buildTests, buildFor, frameFor, cutTests, cutFor, streamFor};
 
 // Number 0: the bytes of each stream.
 pub struct Streams {
@@ -107,7 +108,8 @@ fn build_number(
     if number != 0 {
         return number;
     }
-    if !is_filled(d, n0, n1, n2, n3) {
+    let k = all_sizes(d);
+    if !is_filled(k, n0, n1, n2, n3) {
         return 11;
     }
     if capacity < places::used(d) {
@@ -119,25 +121,36 @@ fn build_number(
     0
 }
 
-// Whether the lengths are those of the slots' streams.
-fn is_filled(d: Description, n0: usize, n1: usize, n2: usize, n3: usize) -> bool
-    ensures { λ r. ⌜ r ≡ filled d n0 n1 n2 n3 ⌝ }
+// The bytes of each slot's stream.
+fn all_sizes(d: Description) -> [usize; 4]
+    ensures { λ r. ⌜ (r ≡ sizes d) × (length (d .stream) ≡ 4) ⌝ }
 {
-    let k0 = size(d.stream[0]);
-    let k1 = size(d.stream[1]);
-    let k2 = size(d.stream[2]);
-    let k3 = size(d.stream[3]);
+    let n0 = size(d.stream[0]);
+    let n1 = size(d.stream[1]);
+    let n2 = size(d.stream[2]);
+    let n3 = size(d.stream[3]);
+    [n0, n1, n2, n3]
+}
+
+// Whether the lengths are these sizes.
+fn is_filled(k: [usize; 4], n0: usize, n1: usize, n2: usize, n3: usize) -> bool
+    ensures { λ r. ⌜ r ≡ (eqb n0 (getD k 0 0) && eqb n1 (getD k 1 0) && eqb n2 (getD k 2 0) && eqb n3 (getD k 3 0)) ⌝ }
+{
+    let k0 = k[0];
+    let k1 = k[1];
+    let k2 = k[2];
+    let k3 = k[3];
     (n0 == k0) & (n1 == k1) & (n2 == k2) & (n3 == k3)
 }
 
-// Whether a length is less than that of the slot's stream.
-fn less_sizes(d: Description, n0: usize, n1: usize, n2: usize, n3: usize) -> bool
-    ensures { λ r. ⌜ r ≡ anyLess (sizes d) (n0 ∷ n1 ∷ n2 ∷ n3 ∷ []) ⌝ }
+// Whether a length is less than its size.
+fn is_less(k: [usize; 4], n0: usize, n1: usize, n2: usize, n3: usize) -> bool
+    ensures { λ r. ⌜ r ≡ (ltb n0 (getD k 0 0) || (ltb n1 (getD k 1 0) || (ltb n2 (getD k 2 0) || ltb n3 (getD k 3 0)))) ⌝ }
 {
-    let k0 = size(d.stream[0]);
-    let k1 = size(d.stream[1]);
-    let k2 = size(d.stream[2]);
-    let k3 = size(d.stream[3]);
+    let k0 = k[0];
+    let k1 = k[1];
+    let k2 = k[2];
+    let k3 = k[3];
     (n0 < k0) | ((n1 < k1) | ((n2 < k2) | (n3 < k3)))
 }
 
@@ -164,7 +177,8 @@ fn cut_number(
     if capacity < places::used(d) {
         return 12;
     }
-    if less_sizes(d, n0, n1, n2, n3) {
+    let k = all_sizes(d);
+    if is_less(k, n0, n1, n2, n3) {
         return 1;
     }
     0
@@ -205,16 +219,6 @@ pub fn build(
         number: 0,
         length: capacity,
     }
-}
-
-fn all_sizes(d: Description) -> [usize; 4]
-    ensures { λ r. ⌜ r ≡ sizes d ⌝ }
-{
-    let n0 = size(d.stream[0]);
-    let n1 = size(d.stream[1]);
-    let n2 = size(d.stream[2]);
-    let n3 = size(d.stream[3]);
-    [n0, n1, n2, n3]
 }
 
 // Copies two parts of the frame, one behind the other, to the front of the output.

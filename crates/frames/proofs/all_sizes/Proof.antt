@@ -30,7 +30,7 @@ size-requires-4 : tie.Need-size-requires-4
 size-requires-4 c κs = tt
 
 returns : tie.Need-returns
-returns c = search (sizes-are, sized)
+returns c = (search (sizes-are, sized), search sized)
 
 pub all-sizes-spec : {M : Type 1} → statement M
 all-sizes-spec =

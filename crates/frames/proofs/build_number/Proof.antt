@@ -15,6 +15,9 @@ handed-number-requires c κs = tt
 returns-2 : tie.Need-returns-2
 returns-2 c = search building
 
+all-sizes-requires : tie.Need-all-sizes-requires
+all-sizes-requires c κs = tt
+
 is-filled-requires : tie.Need-is-filled-requires
 is-filled-requires c κs = tt
 
@@ -41,6 +44,7 @@ build-number-spec =
     returns
     handed-number-requires
     returns-2
+    all-sizes-requires
     is-filled-requires
     returns-3
     used-requires

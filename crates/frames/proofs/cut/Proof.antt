@@ -86,7 +86,7 @@ returns-2 c = let l = c .before .before .before .before .before .before .before 
     let z = l .before .if1 .left in
     let q = parts-of _ (a .d) _ _ _ _ _ _ _ (simp length-map at (t .good .1 .0 .1 .1 .1 .1 .0 .1 .0 .1)) e z _ (l .layout .ensures) in
     let w = cut-out _ (a .d) _ (a .frame .now) (a .o0 .now) (a .o1 .now) (a .o2 .now) (a .o3 .now) _ e z _ q in (
-      cut-done _ (a .d) _ (a .frame .now) (a .o0 .now) (a .o1 .now) (a .o2 .now) (a .o3 .now) _ e z _ (c .all-sizes .ensures),
+      cut-done _ (a .d) _ (a .frame .now) (a .o0 .now) (a .o1 .now) (a .o2 .now) (a .o3 .now) _ e z _ (c .all-sizes .ensures .0),
       (
         w 0 _ (c .before .before .before .before .before .before .before .before .before .before .before .before .before .before .before .before .before .before .before .before .before .take-out .ensures),
         (w 1 _ (c .before .before .before .before .before .before .before .before .before .before .before .before .before .before .before .take-out2 .ensures), (w 2 _ (c .before .before .before .before .before .before .before .before .before .take-out3 .ensures), w 3 _ (c .before .before .before .take-out4 .ensures))),

@@ -21,8 +21,11 @@ used-requires c κs = tt
 returns-3 : tie.Need-returns-3
 returns-3 c = search cutting
 
-less-sizes-requires : tie.Need-less-sizes-requires
-less-sizes-requires c κs = tt
+all-sizes-requires : tie.Need-all-sizes-requires
+all-sizes-requires c κs = tt
+
+is-less-requires : tie.Need-is-less-requires
+is-less-requires c κs = tt
 
 returns-4 : tie.Need-returns-4
 returns-4 c = search cutting
@@ -40,6 +43,7 @@ cut-number-spec =
     returns-2
     used-requires
     returns-3
-    less-sizes-requires
+    all-sizes-requires
+    is-less-requires
     returns-4
     returns-5)
