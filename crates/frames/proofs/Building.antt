@@ -1,17 +1,17 @@
 -- A frame as it is built: what its tests say of the streams, and what the call answers and leaves. Assumes nothing.
-use mathlib.Core.Path.{_≡_, refl, sym, ap, ap₂, _∙_, subst}
+use mathlib.Core.Path.{_≡_, refl, sym, ap, _∙_}
 use mathlib.Core.List.{List, [], _∷_, _++_}
 use Prim.Native.Nat.{ℕ, _+_, _-_, _≤_}
 use native.Mathlib.Omega.{arith}
 use borrow.Author.Tests.{ltb-false, not-false, ne-eqb}
 use lib.Dec.{eqb, lit<}
-use lib.ListN.{length, replicate}
+use lib.ListN.{length, length-replicate, replicate}
 use Rattle.laws.specs.Refuse.{refusedWith}
 use Rattle.laws.specs.Written.{written}
 use Rattle.laws.proofs.Refuse.{free}
-use Rattle.laws.proofs.Written.{write-next}
-use Rattle.moves.specs.Moves.{Puts}
-use Rattle.moves.proofs.Pieces.{puts-then}
+use Rattle.laws.proofs.Written.{write-next, written-length}
+use Rattle.moves.specs.Moves.{placed, Puts}
+use Rattle.moves.proofs.Turns.{placed-is}
 use Rattle.description.specs.declared.Description.{Description}
 use Rattle.description.specs.Bytes.{saidOf}
 use Rattle.description.specs.Answers.{handed}
@@ -20,7 +20,6 @@ use Rattle.description.proofs.Filled.{filled-each}
 use Rattle.places.proofs.Placing.{used-is}
 use Rattle.frames.specs.Frames.{partsA, partsB, joined, frameOf, buildTests, buildNumber, buildFor, frameFor}
 use Rattle.frames.specs.Ready.{slot, allA, allB, Ready}
-use Rattle.frames.proofs.Putting.{joined-append}
 
 pub all-used : (d : Description) → length (d .stream) ≡ 4 → allA d + allB d ≡ usedBy d
 all-used d n =
@@ -39,14 +38,9 @@ module _ (capacity : ℕ) (d : Description) (mode : ℕ) (s0 s1 s2 s3 : List ℕ
       let k = all-used d size in
       (record { n0 = w .0; n1 = w .1; n2 = w .2; n3 = w .3; fits = omega arith }, omega arith, c)
 
--- in a buffer that has kept its length
-pub still : (d : Description) (s0 s1 s2 s3 : List ℕ) (room more : ℕ) → Ready d s0 s1 s2 s3 room → more ≡ room → Ready d s0 s1 s2 s3 more
-still d s0 s1 s2 s3 room more r e = subst (λ (n : ℕ). Ready d s0 s1 s2 s3 n) (sym e) r
-
--- the zeros have room
-pub fits : (d : Description) (capacity l0 l1 l2 at end : ℕ) → allA d + allB d ≤ capacity → capacity ≤ l0 → at ≡ allA d → end ≡ at + allB d → l1 ≡ l0 → l2 ≡ l1
-    → (end ≤ capacity) × (capacity ≤ l2)
-fits d capacity l0 l1 l2 at end h k p q r t = (omega arith, omega arith)
+-- the streams end within the capacity
+pub within : (d : Description) (capacity end : ℕ) → allA d + allB d ≤ capacity → end ≡ allA d + allB d → end ≤ capacity
+within d capacity end h e = omega arith
 
 module _ (capacity : ℕ) (d : Description) (mode : ℕ) (s0 s1 s2 s3 out : List ℕ) (n : ℕ)
     (e : n ≡ refusedWith (buildTests capacity d mode (length s0 ∷ length s1 ∷ length s2 ∷ length s3 ∷ []) (length out))) where
@@ -55,24 +49,24 @@ module _ (capacity : ℕ) (d : Description) (mode : ℕ) (s0 s1 s2 s3 out : List
   unfolding buildFor frameFor buildNumber
   build-refused z = rw (← e, ne-eqb n 0 z) (refl, refl)
 
-  pub build-done : n ≡ 0 → length (d .stream) ≡ 4 → (e1 e2 e3 : List ℕ) (at end : ℕ)
-      → (at ≡ allA d) × Puts out 0 (joined (partsA (d .stream) (s0 ∷ s1 ∷ s2 ∷ s3 ∷ []))) e1 at
-      → (end ≡ at + allB d) × Puts e1 at (joined (partsB (d .stream) (s0 ∷ s1 ∷ s2 ∷ s3 ∷ []))) e2 end
-      → e3 ≡ written e2 end (replicate (capacity - end) 0)
+  pub build-done : n ≡ 0 → length (d .stream) ≡ 4 → (e1 e2 : List ℕ) (end : ℕ)
+      → (end ≡ allA d + allB d) × Puts out 0 (joined (partsA (d .stream) (s0 ∷ s1 ∷ s2 ∷ s3 ∷ []) ++ partsB (d .stream) (s0 ∷ s1 ∷ s2 ∷ s3 ∷ []))) e1 end
+      → e2 ≡ placed e1 end (replicate (capacity - end) 0)
       → (record { number = 0; length = capacity } ≡ buildFor capacity d mode (s0 ∷ s1 ∷ s2 ∷ s3 ∷ []) out)
-      × (e3 ≡ frameFor capacity d mode (s0 ∷ s1 ∷ s2 ∷ s3 ∷ []) out)
+      × (e2 ≡ frameFor capacity d mode (s0 ∷ s1 ∷ s2 ∷ s3 ∷ []) out)
   unfolding buildFor frameFor buildNumber frameOf
-  build-done z size e1 e2 e3 at end p q r =
+  build-done z size e1 e2 end p q =
       let ss = s0 ∷ s1 ∷ s2 ∷ s3 ∷ [] in
-      let A = joined (partsA (d .stream) ss) in
-      let B = joined (partsB (d .stream) ss) in
+      let P = joined (partsA (d .stream) ss ++ partsB (d .stream) ss) in
       let Z : List ℕ = replicate (capacity - end) 0 in
       let w = ready-of capacity d mode s0 s1 s2 s3 (length out) n size e z in
       let w1 = w .1 in
       let w2 = w .2 in
       let p0 = p .0 in
-      let q0 = q .0 in
-      let u : end ≡ usedBy d = let k = all-used d size in omega arith in
-      let t : Puts out 0 (A ++ B) e2 end = puts-then (omega arith) (p .1) (q .1) in
-      let m : written e2 end Z ≡ written out 0 ((A ++ B) ++ Z) = write-next out e2 0 (A ++ B) Z end (t .end) (omega arith) (t .text) in
-      rw (← e, z) (refl, r ∙ m ∙ ap₂ (λ (x : List ℕ) (k : ℕ). written out 0 (x ++ replicate {A = ℕ} (capacity - k) 0)) (sym (joined-append (partsA (d .stream) ss) (partsB (d .stream) ss))) u)
+      let m = p .1 .end in
+      let u : end ≡ usedBy d = p0 ∙ all-used d size in
+      let l : length e1 ≡ length out = ap length (p .1 .text) ∙ written-length out 0 P (omega arith) in
+      let k : length Z ≡ capacity - end = length-replicate (capacity - end) 0 in
+      let t : placed e1 end Z ≡ written e1 end Z = placed-is e1 end Z (omega arith) in
+      let v : written e1 end Z ≡ written out 0 (P ++ Z) = write-next out e1 0 P Z end (p .1 .end) (omega arith) (p .1 .text) in
+      rw (← e, z) (refl, q ∙ t ∙ v ∙ ap (λ (j : ℕ). written out 0 (P ++ replicate {A = ℕ} (capacity - j) 0)) u)

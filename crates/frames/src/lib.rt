@@ -5,15 +5,15 @@ use moves::Wrote;
 use places::Part;
 ghost use mathlib.Core.Path.{_≡_};
 ghost use mathlib.Core.List.{[], _∷_, _++_};
-ghost use Prim.Native.Nat.{_+_, _-_, _≤_};
+ghost use Prim.Native.Nat.{_+_, _≤_};
 ghost use mathlib.Core.Bool.{_||_, _&&_};
 ghost use lib.Dec.{eqb, ltb};
-ghost use lib.ListN.{length, getD, take, drop, replicate};
+ghost use lib.ListN.{length, getD};
 ghost use Rattle.laws.specs.Refuse.{refusedWith};
 ghost use Rattle.laws.specs.Written.{written};
 ghost use Rattle.moves.specs.Moves.{Puts};
-ghost use Rattle.frames.specs.Ready.{allA, allB, Ready};
-ghost use Rattle.frames.specs.Frames.{partsA, partsB, joined, bytesIn, sizes, buildTests, buildFor, frameFor, cutTests, cutFor, streamFor};
+ghost use Rattle.frames.specs.Ready.{allA, allB, allParts, Ready};
+ghost use Rattle.frames.specs.Frames.{joined, bytesIn, sizes, buildTests, buildFor, frameFor, cutTests, cutFor, streamFor};
 
 // Number 0: the bytes of each stream.
 pub struct Streams {
@@ -27,64 +27,32 @@ fn size(l: Lengths) -> usize
     (l.a as usize) + (l.b as usize)
 }
 
-// The part A of a stream.
-fn put_a(l: Lengths, s: &[u8], out: &mut [u8], at: usize) -> usize
-    requires { ⌜ (l .a ≤ length (now s)) × (at + l .a ≤ length (now out)) ⌝ }
-    ensures { λ r. ⌜ (r ≡ at + l .a) × Puts (now (out .entry)) at (take (l .a) (now (s .entry))) (now (out .exit)) r ⌝ }
+// Four pieces, one behind the other.
+fn put_four(s0: &[u8], s1: &[u8], s2: &[u8], s3: &[u8], out: &mut [u8], at: usize) -> usize
+    requires { ⌜ at + (length (now s0) + length (now s1) + length (now s2) + length (now s3)) ≤ length (now out) ⌝ }
+    ensures { λ r. ⌜ Puts (now (out .entry)) at (joined (now (s0 .entry) ∷ now (s1 .entry) ∷ now (s2 .entry) ∷ now (s3 .entry) ∷ [])) (now (out .exit)) r ⌝ }
 {
-    let a = l.a as usize;
-    moves::put(&s[..a], out, at)
+    let at1 = moves::put(s0, out, at);
+    let at2 = moves::put(s1, out, at1);
+    let at3 = moves::put(s2, out, at2);
+    moves::put(s3, out, at3)
 }
 
-// And its part B, all that follows.
-fn put_b(l: Lengths, s: &[u8], out: &mut [u8], at: usize) -> usize
-    requires { ⌜ (length (now s) ≡ l .a + l .b) × (at + l .b ≤ length (now out)) ⌝ }
-    ensures { λ r. ⌜ (r ≡ at + l .b) × Puts (now (out .entry)) at (drop (l .a) (now (s .entry))) (now (out .exit)) r ⌝ }
-{
-    let a = l.a as usize;
-    moves::put(&s[a..], out, at)
-}
-
-// The parts A of all streams, from the front on.
-fn put_all_a(d: Description, s0: &[u8], s1: &[u8], s2: &[u8], s3: &[u8], out: &mut [u8]) -> usize
+// The parts A of all streams, from the front on, and behind them the parts B.
+fn put_parts(d: Description, s0: &[u8], s1: &[u8], s2: &[u8], s3: &[u8], out: &mut [u8]) -> usize
     requires { ⌜ Ready d (now s0) (now s1) (now s2) (now s3) (length (now out)) ⌝ }
-    ensures { λ r. ⌜ (r ≡ allA d) × Puts (now (out .entry)) 0 (joined (partsA (d .stream) (now (s0 .entry) ∷ now (s1 .entry) ∷ now (s2 .entry) ∷ now (s3 .entry) ∷ []))) (now (out .exit)) r ⌝ }
+    ensures { λ r. ⌜ (r ≡ allA d + allB d) × Puts (now (out .entry)) 0 (allParts d (now (s0 .entry)) (now (s1 .entry)) (now (s2 .entry)) (now (s3 .entry))) (now (out .exit)) r ⌝ }
 {
-    let at1 = put_a(d.stream[0], s0, out, 0);
-    let at2 = put_a(d.stream[1], s1, out, at1);
-    let at3 = put_a(d.stream[2], s2, out, at2);
-    put_a(d.stream[3], s3, out, at3)
-}
-
-// The parts B of all streams, behind the parts A.
-fn put_all_b(
-    d: Description,
-    s0: &[u8],
-    s1: &[u8],
-    s2: &[u8],
-    s3: &[u8],
-    out: &mut [u8],
-    at: usize,
-) -> usize
-    requires { ⌜ Ready d (now s0) (now s1) (now s2) (now s3) (length (now out)) × (at ≡ allA d) ⌝ }
-    ensures { λ r. ⌜ (r ≡ at + allB d) × Puts (now (out .entry)) at (joined (partsB (d .stream) (now (s0 .entry) ∷ now (s1 .entry) ∷ now (s2 .entry) ∷ now (s3 .entry) ∷ []))) (now (out .exit)) r ⌝ }
-{
-    let at1 = put_b(d.stream[0], s0, out, at);
-    let at2 = put_b(d.stream[1], s1, out, at1);
-    let at3 = put_b(d.stream[2], s2, out, at2);
-    put_b(d.stream[3], s3, out, at3)
-}
-
-// Zeros from one place to another.
-fn clear(out: &mut [u8], from: usize, to: usize)
-    requires { ⌜ (from ≤ to) × (to ≤ length (now out)) ⌝ }
-    ensures { λ _. ⌜ now (out .exit) ≡ written (now (out .entry)) from (replicate (to - from) 0) ⌝ }
-{
-    let mut i = from;
-    while i < to {
-        out[i] = 0;
-        i += 1;
-    }
+    let l0 = d.stream[0];
+    let l1 = d.stream[1];
+    let l2 = d.stream[2];
+    let l3 = d.stream[3];
+    let a0 = l0.a as usize;
+    let a1 = l1.a as usize;
+    let a2 = l2.a as usize;
+    let a3 = l3.a as usize;
+    let at = put_four(&s0[..a0], &s1[..a1], &s2[..a2], &s3[..a3], out, 0);
+    put_four(&s0[a0..], &s1[a1..], &s2[a2..], &s3[a3..], out, at)
 }
 
 // The refusal of a frame to be built, by the lengths of its streams.
@@ -212,9 +180,8 @@ pub fn build(
     if number != 0 {
         return Wrote { number, length: 0 };
     }
-    let at = put_all_a(d, s0, s1, s2, s3, out);
-    let end = put_all_b(d, s0, s1, s2, s3, out, at);
-    clear(out, end, capacity);
+    let end = put_parts(d, s0, s1, s2, s3, out);
+    moves::clear(out, end, capacity - end);
     Wrote {
         number: 0,
         length: capacity,
