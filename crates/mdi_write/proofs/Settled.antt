@@ -8,7 +8,7 @@ use Rattle.laws.specs.Settle.{Settles}
 use Rattle.laws.proofs.Settle.{settled-both}
 use Rattle.mdi_write.specs.Answers.{outFor, writeFor}
 use Rattle.record.specs.declared.Record.{Record}
-use Rattle.mdi_write.specs.declared.Wrote.{Wrote}
+use Rattle.moves.specs.declared.Wrote.{Wrote}
 use Rattle.mdi_write.specs.Packet.{four}
 
 pub write : Settles (λ (i : Record × List ℕ × List ℕ × List ℕ × List ℕ × List ℕ) (o : Wrote × List ℕ).

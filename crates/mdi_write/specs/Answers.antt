@@ -18,7 +18,8 @@ use Rattle.record.specs.declared.Record.{Record}
 use Rattle.record.specs.declared.Time.{Time}
 use Rattle.record.specs.declared.Time.the-variants.{Absent, Given}
 use Rattle.mdi_spots.specs.Streams.{filled}
-use Rattle.mdi_write.specs.declared.Wrote.{Wrote}
+use Rattle.moves.specs.declared.Wrote.{Wrote}
+use Rattle.moves.specs.Wrote.{wroteOf}
 use Rattle.mdi_write.specs.Packet.{Streams, packetOf}
 
 -- a stream over 65,528 bytes
@@ -55,8 +56,7 @@ unfoldable pub writeNumber : Record → Streams → ℕ → ℕ
 writeNumber r ss room = refusedWith (writeTests r ss room)
 
 unfoldable pub writeFor : Record → Streams → ℕ → Wrote
-writeFor r ss room =
-    record { number = writeNumber r ss room; length = pick (eqb (writeNumber r ss room) 0) (length (packetOf r ss)) 0 }
+writeFor r ss room = wroteOf (writeNumber r ss room) (length (packetOf r ss))
 
 -- the output after it
 unfoldable pub outFor : Record → Streams → List ℕ → List ℕ

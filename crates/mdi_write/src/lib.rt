@@ -1,4 +1,5 @@
 // Writes an MDI packet (01, "MDI packet"): the items of 01's table in its order, empty ones left out.
+use moves::Wrote;
 ghost use mathlib.Core.Path.{_≡_};
 ghost use mathlib.Core.Bool.{false, not, _||_};
 ghost use mathlib.Core.List.{[], _∷_};
@@ -21,12 +22,6 @@ ghost use Rattle.mdi_spots.specs.Streams.{filled};
 ghost use Rattle.mdi_write.specs.Packet.{four, timeBytes, headValues, streamValues};
 ghost use Rattle.mdi_write.specs.Rows.{allNames, wire, wireSize, laid, sizeFor, Tested};
 ghost use Rattle.mdi_write.specs.Answers.{anyLong, badTime, tooLarge, writeTests, writeFor, outFor};
-
-// The number, and the bytes written: 0 where it is refused.
-pub struct Wrote {
-    pub number: u32,
-    pub length: usize,
-}
 
 // The bytes of an item with a value of n bytes: an empty one is left out.
 fn item_size(n: usize) -> usize

@@ -18,7 +18,7 @@ use Rattle.mdi.specs.Reading.{readFor}
 use Rattle.mdi.specs.declared.Answer.{Answer}
 use Rattle.mdi_write.specs.Answers.{writeFor, outFor}
 use Rattle.mdi_write.specs.Packet.{Streams}
-use Rattle.mdi_write.specs.declared.Wrote.{Wrote}
+use Rattle.moves.specs.declared.Wrote.{Wrote}
 use Rattle.meter.specs.declared.Seen.{Seen}
 use Rattle.meter.specs.Seen.{seenIn, recordFor, wroteFor}
 
