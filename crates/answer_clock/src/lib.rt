@@ -1,33 +1,47 @@
 // Calls 20 to 28 of docs/CASES.md: timestamps, recordings, dates. Nothing here decides an answer.
+ghost use mathlib.Core.Path.{_≡_};
+ghost use Rattle.answer_clock.specs.Values.{stampIn};
+use cases::case;
 use clock::Stamp;
 use recording::Step;
 use saying::Said;
 
-fn told_stamp(number: u32, t: Stamp) -> Said {
-    let said = saying::begin(number, 0);
+// Bytes that a timestamp takes in a body.
+pub const STAMP: usize = 12;
+
+// The timestamp at a position of the body.
+pub fn stamp_at(body: &[u8], at: usize) -> Stamp
+    ensures { λ r. ⌜ r ≡ stampIn (now (body .entry)) at ⌝ }
+{
+    Stamp {
+        utco: fields::read16(body, at),
+        seconds: fields::read64(body, case::past(at, 2)),
+        milliseconds: fields::read16(body, case::past(at, 10)),
+    }
+}
+
+// What was said, and the three values of a timestamp.
+pub fn with_stamp(said: Said, t: Stamp) -> Said {
     saying::three(said, t.utco as u64, t.seconds, t.milliseconds as u64)
 }
 
 pub fn stamp_write(body: &[u8], dst: &mut [u8]) -> Said {
-    let done = clock::encode(case_values::stamp_at(body, 0), dst);
+    let done = clock::encode(stamp_at(body, 0), dst);
     saying::one(done.number, done.length as u64)
 }
 
 pub fn stamp_read(s: &[u8]) -> Said {
     let given = clock::decode(s);
-    told_stamp(given.number, given.stamp)
+    with_stamp(saying::begin(given.number, 0), given.stamp)
 }
 
 pub fn stamp_next(body: &[u8]) -> Said {
-    let given = clock::next(case_values::stamp_at(body, 0));
-    told_stamp(given.number, given.stamp)
+    let given = clock::next(stamp_at(body, 0));
+    with_stamp(saying::begin(given.number, 0), given.stamp)
 }
 
 pub fn stamp_follows(body: &[u8]) -> Said {
-    let verdict = clock::follows(
-        case_values::stamp_at(body, 0),
-        case_values::stamp_at(body, case_values::STAMP),
-    );
+    let verdict = clock::follows(stamp_at(body, 0), stamp_at(body, STAMP));
     saying::one(verdict.number, verdict.yes as u64)
 }
 

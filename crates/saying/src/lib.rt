@@ -114,3 +114,15 @@ pub fn lent(out: &mut [u8], s: Said, b: &[u8]) -> usize
     let at = answer::buffer(out, at, b);
     end(out, s.whole, at)
 }
+
+// .. of one that lends four.
+pub fn lent_four(out: &mut [u8], s: Said, a: &[u8], b: &[u8], c: &[u8], d: &[u8]) -> usize
+    ensures { λ r. ⌜ r ≤ 1048576 ⌝ }
+{
+    let at = tell(out, s, 4);
+    let at = answer::buffer(out, at, a);
+    let at = answer::buffer(out, at, b);
+    let at = answer::buffer(out, at, c);
+    let at = answer::buffer(out, at, d);
+    end(out, s.whole, at)
+}
