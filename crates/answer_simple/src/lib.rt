@@ -53,6 +53,8 @@ fn form_of(call: u8) -> Form {
         22 => bare(12),
         23 => bare(24),
         28 => bare(8),
+        33 => bare(64),
+        34 => bare(96),
         1 | 2 | 21 | 24 => reads(0),
         25 | 30 => reads(8),
         4 => reads(9),
@@ -84,6 +86,8 @@ fn say(call: u8, body: &[u8], between: usize, s: &[u8], dst: &mut [u8]) -> Said 
         28 => answer_clock::date(body),
         30 => answer_packet::packet_check(body, s),
         32 => answer_packet::packet_write(body, s, dst),
+        33 => answer_hand::settings_check(body),
+        34 => answer_hand::hand_out(body),
         _ => saying::only_if(saying::begin(0, 0), false),
     }
 }
@@ -109,10 +113,7 @@ fn plain(call: u8, body: &[u8], out: &mut [u8]) -> usize {
     let dst = case::front_mut(&mut two, t.len);
     let said = say(call, body, s.next, case::front(&one, s.len), dst);
     let said = saying::only_if(said, s.whole & case::ends(t, body));
-    if f.lends {
-        return saying::lent(out, said, dst);
-    }
-    saying::alone(out, said)
+    saying::some(out, said, f.lends as u8, dst, body)
 }
 
 // The call that gives back a part of what it reads has a form of its own.

@@ -126,3 +126,23 @@ pub fn lent_four(out: &mut [u8], s: Said, a: &[u8], b: &[u8], c: &[u8], d: &[u8]
     let at = answer::buffer(out, at, d);
     end(out, s.whole, at)
 }
+
+// A buffer, where the answer has it.
+fn more(out: &mut [u8], at: usize, has: bool, b: &[u8]) -> usize
+    ensures { λ r. ⌜ r ≤ max at 1048576 ⌝ }
+{
+    if has {
+        return answer::buffer(out, at, b);
+    }
+    at
+}
+
+// .. of one that lends so many of two.
+pub fn some(out: &mut [u8], s: Said, buffers: u8, b: &[u8], c: &[u8]) -> usize
+    ensures { λ r. ⌜ r ≤ 1048576 ⌝ }
+{
+    let at = tell(out, s, buffers);
+    let at = more(out, at, 0 < buffers, b);
+    let at = more(out, at, 1 < buffers, c);
+    end(out, s.whole, at)
+}

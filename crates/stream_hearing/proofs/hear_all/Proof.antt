@@ -1,16 +1,15 @@
--- `answers_stream::runs::hear_all` is safe and ends. Assumes nothing.
+-- `stream_hearing::hear_all` is safe and ends. Assumes nothing.
 use mathlib.Core.Path.{_≡_}
-use Prim.Native.Nat.{_≤_, _-_}
 use lib.ListN.{length}
 use borrow.Author.Needs.{needs}
-use Rattle.answers_stream.proofs.runs.hear_all.Statement.{statement}
-use Rattle.answers_stream.proofs.runs.hear_all.Tie as tie
+use Rattle.stream_hearing.proofs.hear_all.Statement.{statement}
+use Rattle.stream_hearing.proofs.hear_all.Tie as tie
 
 abbrev Inv-loop : tie.InvT-loop
-Inv-loop p n frame buffer₀ all₀ size r₀ at₀ k₀ buffer all r at k = (length buffer ≡ length buffer₀) × (length all ≡ length all₀) × (k ≤ n)
+Inv-loop p n frame buffer₀ all₀ size r₀ at₀ left₀ buffer all r at left = (length buffer ≡ length buffer₀) × (length all ≡ length all₀)
 
 abbrev μ-loop : tie.MeasureT-loop
-μ-loop p n frame buffer₀ all₀ size r₀ at₀ k₀ buffer all r at k = n - k
+μ-loop p n frame buffer₀ all₀ size r₀ at₀ left₀ buffer all r at left = left
 
 past-requires : tie.Need-past-requires Inv-loop μ-loop
 past-requires c κs = search needs
@@ -21,14 +20,14 @@ loop-holds c = search needs
 part-requires : tie.Need-part-requires Inv-loop μ-loop
 part-requires c κs = search needs
 
-hear-requires : tie.Need-hear-requires Inv-loop μ-loop
-hear-requires c κs = search needs
+hear-one-requires : tie.Need-hear-one-requires Inv-loop μ-loop
+hear-one-requires c κs = search needs
 
 past-requires-2 : tie.Need-past-requires-2 Inv-loop μ-loop
 past-requires-2 c κs = search needs
 
-add-k : tie.Need-add-k Inv-loop μ-loop
-add-k c = search needs
+sub-left : tie.Need-sub-left Inv-loop μ-loop
+sub-left c = search needs
 
 loop-less : tie.Need-loop-less Inv-loop μ-loop
 loop-less c = search needs
@@ -54,9 +53,9 @@ hear-all-spec =
     past-requires
     loop-holds
     part-requires
-    hear-requires
+    hear-one-requires
     past-requires-2
-    add-k
+    sub-left
     loop-less
     loop-again
     same-length

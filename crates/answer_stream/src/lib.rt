@@ -1,0 +1,87 @@
+// Calls 35 to 37 of docs/CASES.md: scripts of steps over a sender and a receiver, each step handed what the last one left. Nothing here
+// decides an answer.
+use cases::case;
+use cases::case::Taken;
+use saying::Said;
+use stream_values::Run;
+
+// The most steps of a script.
+const STEPS: u8 = 24;
+
+fn step(r: Run, call: u8, body: &[u8], one: &mut [u8], two: &mut [u8]) -> Run {
+    match call {
+        35 => stream_sending::send(r, body, one, two),
+        36 => stream_hearing::hear(r, body, one),
+        _ => stream_hearing::pass(r, body, one, two),
+    }
+}
+
+fn play(first: Run, call: u8, steps: u8, body: &[u8], one: &mut [u8], two: &mut [u8]) -> Run {
+    let mut r = first;
+    let mut left = steps;
+    while 0 < left {
+        r = step(r, call, body, one, two);
+        left -= 1;
+    }
+    r
+}
+
+// The buffers that an answer gives.
+fn buffers(call: u8) -> u8 {
+    match call {
+        35 => 2,
+        36 => 1,
+        _ => 0,
+    }
+}
+
+// The number of steps at a position of the body; 0 where there are more than allowed.
+fn steps(body: &[u8], at: usize) -> u8 {
+    let n = case::byte(body, at);
+    if n <= STEPS { n } else { 0 }
+}
+
+// A number that is allowed stands there, and the call is one of the three.
+fn known(call: u8, body: &[u8], at: usize) -> bool {
+    (34 < call) & (call < 38) & (at < body.len()) & (case::byte(body, at) <= STEPS)
+}
+
+// The script whose number of steps stands at a position of the body.
+fn script(call: u8, body: &[u8], at: usize, whole: bool, one: &mut [u8], two: &mut [u8]) -> Said {
+    let first = stream_values::begun(call, body, case::past(at, 1), whole & known(call, body, at));
+    let r = play(first, call, steps(body, at), body, one, two);
+    stream_values::told(r, call, r.at == body.len())
+}
+
+// The buffer at a position of the body; where the call is handed none, so many bytes as they are.
+fn taken(has: bool, body: &[u8], at: usize, into: &mut [u8], len: usize) -> Taken {
+    if has {
+        return case::buffer(body, at, into);
+    }
+    Taken {
+        whole: true,
+        len,
+        next: at,
+    }
+}
+
+// Bytes before the first buffer, or before the number of steps.
+fn head(call: u8) -> usize {
+    match call {
+        35 => 108,
+        36 => 20,
+        _ => answer_hand::SETTINGS,
+    }
+}
+
+// A run from fresh states has a store and a receiver's buffer of zeros.
+pub fn answer(call: u8, body: &[u8], out: &mut [u8]) -> usize {
+    let mut room = [0u8; case::BUFFER];
+    let mut more = [0u8; case::BUFFER];
+    let s = taken(call != 37, body, head(call), &mut room, 12288);
+    let t = taken(call == 35, body, s.next, &mut more, 16384);
+    let one = case::front_mut(&mut room, s.len);
+    let two = case::front_mut(&mut more, t.len);
+    let said = script(call, body, t.next, s.whole & t.whole, one, two);
+    saying::some(out, said, buffers(call), one, two)
+}
