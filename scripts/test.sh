@@ -65,8 +65,16 @@ whole() {
     fi
 }
 
-# only the last line of all may look like the verdict
-quiet() { sed -e 's/^\([0-9][0-9]* passed, [0-9][0-9]* failed\)$/(\1)/'; }
+# only the last line of all may look like the verdict; line by line, so that none is held back where standard output is no terminal
+quiet() {
+    while IFS= read -r said || [ -n "$said" ]; do
+        case $said in
+        *[!0-9]*' passed, '* | ' passed, '* | *' passed, '*[!0-9]*' failed' | *' passed,  failed') ;;
+        *' passed, '*' failed') said="($said)" ;;
+        esac
+        printf '%s\n' "$said"
+    done
+}
 
 # counted TITLE COMMAND..: a part whose last line has its counts
 counted() {
