@@ -1,97 +1,130 @@
-// What is written down along the night: a list of numbers; the constants name their places. A number a queue stands in three places,
-// by id, one with filler in four.
-use crate::list;
-use crate::plan;
-use crate::text;
+// What is written down along the night, behind the numbers of the plan. A number a queue stands in three places, by id, one with filler
+// in four.
+use crate::table;
 use hand::Three;
+use night_plan::SLOTS;
+use night_text::list;
 
-// the next frame, counted from 0
-pub(crate) const FRAME: usize = 0;
+// the frame that is made, counted from 1
+pub(crate) const FRAME: usize = 14;
 
-// units due and not loaded, loaded, delivered
-pub(crate) const DUE: usize = 1;
+// units loaded; the frame before which one was last refused; units delivered, with those of filler's id, of which there are none
+pub(crate) const LOADED: usize = 15;
 
-pub(crate) const LOADED: usize = 4;
+pub(crate) const REFUSED: usize = 18;
 
-pub(crate) const DELIVERED: usize = 7;
+pub(crate) const DELIVERED: usize = 21;
 
-// refusals for want of room, units that came back changed
-pub(crate) const NO_ROOM: usize = 10;
+// refusals for want of room, and behind it units that came back changed
+pub(crate) const NO_ROOM: usize = 25;
 
-pub(crate) const CHANGED: usize = 11;
+pub(crate) const CHANGED: usize = 26;
 
-// packets of each queue and filler since the last line, and in the last frame
-pub(crate) const SUM: usize = 12;
+// what a line shows, in its order: packets of each queue and filler since the last line; packets that wait; the bar of the last frame
+pub(crate) const SUM: usize = 27;
 
-pub(crate) const LAST: usize = 16;
+pub(crate) const WAITING: usize = 31;
+
+pub(crate) const BAR: usize = 34;
 
 // of the news pages: those that came late, the longest wait and its promise
-pub(crate) const LATE: usize = 20;
+pub(crate) const LATE: usize = 38;
 
-pub(crate) const LONGEST: usize = 21;
+pub(crate) const LONGEST: usize = 39;
 
-pub(crate) const PROMISE: usize = 22;
+pub(crate) const PROMISE: usize = 40;
 
 // by the page's number modulo 8, since at most eight are unfinished: the frame before which it was loaded, and the frames promised
-pub(crate) const SINCE: usize = 24;
+pub(crate) const SINCE: usize = 41;
 
-pub(crate) const BOUND: usize = 32;
+pub(crate) const BOUND: usize = 49;
 
-pub(crate) const SLOTS: usize = 40;
+// Packets of a queue, or filler, in a frame: counted, and as so many characters of the bar.
+fn count_one(book: [usize; SLOTS], id: usize, n: usize) -> [usize; SLOTS] {
+    let mut b = book;
+    let i = id % 4;
+    b[BAR + i] = list::over(n, table::grain(b[night_plan::N]));
+    b[SUM + i] = list::plus(b[SUM + i], n);
+    b
+}
 
 // The packets of a frame.
-pub(crate) fn count(book: &mut [usize], packets: Three, filler: usize) {
-    count_one(book, 0, packets.a);
-    count_one(book, 1, packets.b);
-    count_one(book, 2, packets.c);
-    count_one(book, 3, filler);
+pub(crate) fn count(book: [usize; SLOTS], packets: Three, filler: usize) -> [usize; SLOTS] {
+    let book = count_one(book, 0, packets.a);
+    let book = count_one(book, 1, packets.b);
+    let book = count_one(book, 2, packets.c);
+    count_one(book, 3, filler)
 }
 
-fn count_one(book: &mut [usize], id: usize, n: usize) {
-    list::put(book, list::plus(LAST, id), n);
-    list::add(book, list::plus(SUM, id), n);
-}
-
-// The sums begin anew.
-pub(crate) fn clear_sums(book: &mut [usize]) {
-    list::put(book, SUM, 0);
-    list::put(book, SUM + 1, 0);
-    list::put(book, SUM + 2, 0);
-    list::put(book, SUM + 3, 0);
+// The line of the table, with the packets that wait in each queue; the sums begin anew.
+pub(crate) fn show(book: [usize; SLOTS], a: usize, b: usize, c: usize) -> [usize; SLOTS] {
+    let mut next = book;
+    next[WAITING] = a;
+    next[WAITING + 1] = b;
+    next[WAITING + 2] = c;
+    table::line(next);
+    next[SUM] = 0;
+    next[SUM + 1] = 0;
+    next[SUM + 2] = 0;
+    next[SUM + 3] = 0;
+    next
 }
 
 // Page k was loaded: so many packets wait now, its own among them, and with a share of s it is wholly sent within k/s frames, rounded up.
-pub(crate) fn open_page(plan: &[usize], book: &mut [usize], k: usize, waiting: usize) {
-    let frame = list::at(book, FRAME);
-    list::put(book, SINCE + k % 8, frame);
-    list::put(
-        book,
-        BOUND + k % 8,
-        list::over(waiting, list::at(plan, plan::SHARE)),
-    );
+fn open_page(book: [usize; SLOTS], k: usize, waiting: usize) -> [usize; SLOTS] {
+    let mut b = book;
+    let i = k % 8;
+    b[SINCE + i] = b[FRAME];
+    b[BOUND + i] = list::over(waiting, b[night_plan::SHARE]);
+    b
 }
 
-// A page waited so many frames, of those that it was promised: a share of 0 promises nothing.
-fn judge(book: &mut [usize], wait: usize, bound: usize) {
+// The number that the next unit of a queue got, and the packets that wait in the queue now: the unit is loaded, or there was no room.
+pub(crate) fn note(book: [usize; SLOTS], id: usize, number: u32, waiting: usize) -> [usize; SLOTS] {
+    let mut b = book;
+    let i = id % 3;
+    if number != 0 {
+        b[REFUSED + i] = b[FRAME];
+        b[NO_ROOM] = list::plus(b[NO_ROOM], 1);
+        return b;
+    }
+    let k = b[LOADED + i];
+    b[LOADED + i] = list::plus(k, 1);
+    if id == night_plan::NEWS {
+        return open_page(b, k, waiting);
+    }
+    b
+}
+
+// Page k is delivered: the frames from its loading on count, both among them. A share of 0 promises nothing.
+fn close_page(book: [usize; SLOTS], k: usize) -> [usize; SLOTS] {
+    let mut b = book;
+    let i = k % 8;
+    let bound = b[BOUND + i];
+    let since = b[SINCE + i];
+    let wait = std::num::wrapping_sub_usize(list::plus(b[FRAME], 1), since);
+    table::page(b, list::plus(k, 1), wait, bound);
     if (0 < bound) & (bound < wait) {
-        list::add(book, LATE, 1);
+        b[LATE] = list::plus(b[LATE], 1);
     }
+    if b[LONGEST] < wait {
+        b[LONGEST] = wait;
+        b[PROMISE] = bound;
+    }
+    b
 }
 
-fn note_longest(book: &mut [usize], wait: usize, bound: usize) {
-    if list::at(book, LONGEST) < wait {
-        list::put(book, LONGEST, wait);
-        list::put(book, PROMISE, bound);
+// A unit of a queue came out of the receiver: it is as it was loaded, or not; a news page is shown, with its wait.
+pub(crate) fn deliver(book: [usize; SLOTS], id: usize, unit: &[u8]) -> [usize; SLOTS] {
+    let mut b = book;
+    let i = id % 4;
+    let k = b[DELIVERED + i];
+    b[DELIVERED + i] = list::plus(k, 1);
+    if !night_plan::is_unit(b, id, k, unit) {
+        b[CHANGED] = list::plus(b[CHANGED], 1);
     }
-}
-
-// Page k is delivered: the frames from its loading on count, both among them.
-pub(crate) fn close_page(book: &mut [usize], k: usize) {
-    let bound = list::at(book, BOUND + k % 8);
-    let end = list::plus(list::at(book, FRAME), 1);
-    let wait = std::num::wrapping_sub_usize(end, list::at(book, SINCE + k % 8));
-    text::phrase(b"news page ", list::plus(k, 1), b" delivered: waited ");
-    text::wait(wait, bound);
-    judge(book, wait, bound);
-    note_longest(book, wait, bound);
+    if id == night_plan::NEWS {
+        return close_page(b, k);
+    }
+    b
 }

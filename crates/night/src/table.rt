@@ -1,8 +1,7 @@
-// The table that is printed: a line for some frames together, and the lines at the end.
+// The table that is printed: a line for some frames together, and the lines at the end. night_text::say tells what the marks mean.
 use crate::book;
-use crate::list;
-use crate::plan;
-use crate::text;
+use night_plan::SLOTS;
+use night_text::list;
 
 // The lines of a night, about.
 const LINES: usize = 20;
@@ -18,123 +17,132 @@ fn minute(frame: usize, hour: usize) -> usize {
     frame % hour % 1000000 * 60 / hour
 }
 
-// The number of a frame, from 1, and the wall clock. The hour from two to three comes twice: A in summer time, B in winter time.
-pub(crate) fn stamp(plan: &[usize], frame: usize) {
-    let h = plan::hour(plan);
-    let m = minute(frame, h);
-    text::column(list::plus(frame, 1), 5);
-    let hours = if h == 0 { 0 } else { frame / h };
-    match hours {
-        0 => text::say(b"   1:"),
-        1 => text::say(b"  2A:"),
-        2 => text::say(b"  2B:"),
-        _ => text::say(b"   3:"),
+// The hour of the night, from 0; what is over four hours belongs to the last.
+fn hours(frame: usize, hour: usize) -> usize {
+    if hour == 0 {
+        return 0;
     }
-    if m < 10 {
-        text::say(b"0");
-    }
-    text::number(m);
-    text::say(b"  ");
+    let h = frame / hour;
+    if h < 3 { h } else { 3 }
 }
 
-// The job's start, where it is two o'clock.
-pub(crate) fn start(plan: &[usize], frame: usize) {
-    if !plan::is_two(plan, frame) {
+// The number of a frame, and the wall clock. The hour from two to three comes twice: A in summer time, B in winter time.
+fn stamp(book: [usize; SLOTS]) {
+    let n = book[book::FRAME];
+    let frame = std::num::wrapping_sub_usize(n, 1);
+    let hour = night_plan::hour(book);
+    let h = hours(frame, hour) % 4 * 10;
+    let m = minute(frame, hour);
+    let text = b"\x05   1:\x01\x01  \x05  2A:\x01\x01  \x05  2B:\x01\x01  \x05   3:\x01\x01  ";
+    night_text::say(list::between(text, h, h + 10), &[n, m / 10, m % 10], 0);
+}
+
+fn told(book: [usize; SLOTS], text: &[u8]) {
+    stamp(book);
+    night_text::say(text, &book, night_plan::FILES);
+}
+
+// The job's start, where it is two o'clock by the wall clock.
+pub(crate) fn start(book: [usize; SLOTS]) {
+    let frame = book[book::FRAME];
+    let hour = night_plan::hour(book);
+    if frame == list::plus(hour, 1) {
+        told(book, b"two o'clock: the job starts, \x01 map files\n");
+    }
+    if frame == list::plus(list::plus(hour, hour), 1) {
+        told(
+            book,
+            b"two o'clock again: the job starts again, the same \x01 map files\n",
+        );
+    }
+}
+
+// How long a page waited, and how long it may: a share of 0 promises nothing.
+fn wait(n: usize, bound: usize) {
+    if bound == 0 {
+        night_text::say(b"\x01 frame\x00, nothing promised (share 0)\n", &[n, n], 0);
         return;
     }
-    stamp(plan, frame);
-    if frame == plan::hour(plan) {
-        text::say(b"two o'clock: the job starts, ");
-    } else {
-        text::say(b"two o'clock again: the job starts again, the same ");
-    }
-    text::phrase(b"", list::at(plan, plan::FILES), b" map files\n");
+    night_text::say(
+        b"\x01 frame\x00, promised at most \x01\n",
+        &[n, n, bound],
+        0,
+    );
 }
 
-// The packets of a frame that a character of the bar stands for, so that a line fits on a screen.
-fn grain(plan: &[usize]) -> usize {
-    list::over(list::at(plan, plan::N), BAR)
+// A news page is delivered.
+pub(crate) fn page(book: [usize; SLOTS], k: usize, n: usize, bound: usize) {
+    stamp(book);
+    night_text::say(b"news page \x01 delivered: waited ", &[k], 0);
+    wait(n, bound);
 }
 
-// The last frame: the packets of each queue and filler, each as so many characters.
-fn bar(plan: &[usize], book: &[usize]) {
-    let g = grain(plan);
-    text::say(b"   ");
-    text::repeat(b"0", list::over(list::at(book, book::LAST), g));
-    text::repeat(b"1", list::over(list::at(book, book::LAST + 1), g));
-    text::repeat(b"2", list::over(list::at(book, book::LAST + 2), g));
-    text::repeat(b".", list::over(list::at(book, book::LAST + 3), g));
-    text::say(b"\n");
+// The packets of a frame of n that a character of the bar stands for, so that a line fits on a screen.
+pub(crate) fn grain(n: usize) -> usize {
+    list::over(n, BAR)
 }
 
 // A line is due after this frame.
-pub(crate) fn is_due(plan: &[usize], frame: usize) -> bool {
-    let step = list::over(list::at(plan, plan::FRAMES), LINES);
-    list::remainder(list::plus(frame, 1), step) == 0
+pub(crate) fn is_due(book: [usize; SLOTS]) -> bool {
+    let step = list::over(book[night_plan::FRAMES], LINES);
+    if step == 0 {
+        return false;
+    }
+    book[book::FRAME] % step == 0
 }
 
-// The line, with the packets that wait in each queue.
-pub(crate) fn line(plan: &[usize], book: &[usize], a: usize, b: usize, c: usize) {
-    stamp(plan, list::at(book, book::FRAME));
-    text::column(list::at(book, book::SUM), 6);
-    text::column(list::at(book, book::SUM + 1), 6);
-    text::column(list::at(book, book::SUM + 2), 6);
-    text::column(list::at(book, book::SUM + 3), 6);
-    text::say(b"  ");
-    text::column(a, 5);
-    text::column(b, 5);
-    text::column(c, 5);
-    bar(plan, book);
-}
-
-pub(crate) fn head(plan: &[usize]) {
-    text::say(b"The Sunday with two two-o'clocks. Three queues share one stream of packets:\n");
-    text::say(b"0 news pages, 1 map files, 2 station data; a dot is filler. The job that loads\n");
-    text::phrase(
-        b"the ",
-        list::at(plan, plan::FILES),
-        b" map files starts at two o'clock, and so it starts twice.\n",
+pub(crate) fn line(book: [usize; SLOTS]) {
+    stamp(book);
+    night_text::say(
+        b"\x06\x06\x06\x06  \x05\x05\x05   \xb0\xb1\xb2\xae\n",
+        &book,
+        book::SUM,
     );
-    if 1 < grain(plan) {
-        text::phrase(
-            b"A character of the bar stands for up to ",
-            grain(plan),
-            b" packets.\n",
+}
+
+pub(crate) fn head(book: [usize; SLOTS]) {
+    night_text::say(
+        b"The Sunday with two two-o'clocks. Three queues share one stream of packets:\n0 news pages, 1 map files, 2 station data; a dot is filler. The job that loads\nthe \x01 map files starts at two o'clock, and so it starts twice.\n",
+        &book,
+        night_plan::FILES,
+    );
+    let g = grain(book[night_plan::N]);
+    if 1 < g {
+        night_text::say(
+            b"A character of the bar stands for up to \x01 packets.\n",
+            &[g],
+            0,
         );
     }
-    text::say(b"\n                 packets sent of queue  packets waiting   the last frame,\n");
-    text::say(b"frame  time        0     1     2  fill      0    1    2   packet by packet\n");
-}
-
-pub(crate) fn end(book: &[usize]) {
-    text::phrase(
-        b"\nmap files: ",
-        list::at(book, book::DELIVERED + 1),
-        b" delivered, ",
+    night_text::write(
+        b"\n                 packets sent of queue  packets waiting   the last frame,\nframe  time        0     1     2  fill      0    1    2   packet by packet\n",
     );
-    text::phrase(b"", list::at(book, book::LOADED + 1), b" loaded, ");
-    text::phrase(b"", list::at(book, book::DUE + 1), b" still to load\n");
-    text::phrase(
-        b"units refused for want of room (15) and offered again: ",
-        list::at(book, book::NO_ROOM),
-        b"\n",
-    );
-    text::phrase(
-        b"units that came back changed: ",
-        list::at(book, book::CHANGED),
-        b"\n",
-    );
-    pages(book);
 }
 
 // The line of the news pages.
-fn pages(book: &[usize]) {
-    let delivered = list::at(book, book::DELIVERED);
-    if delivered == 0 {
-        text::say(b"news pages: none delivered\n");
+fn pages(book: [usize; SLOTS]) {
+    if book[book::DELIVERED] == 0 {
+        night_text::write(b"news pages: none delivered\n");
         return;
     }
-    text::phrase(b"news pages: ", delivered, b" delivered, ");
-    text::phrase(b"", list::at(book, book::LATE), b" late, longest wait ");
-    text::wait(list::at(book, book::LONGEST), list::at(book, book::PROMISE));
+    night_text::say(b"news pages: \x01 delivered, ", &book, book::DELIVERED);
+    night_text::say(b"\x01 late, longest wait ", &book, book::LATE);
+    wait(book[book::LONGEST], book[book::PROMISE]);
+}
+
+pub(crate) fn end(book: [usize; SLOTS]) {
+    let loaded = book[book::LOADED + 1];
+    let came = night_plan::came(book, night_plan::MAPS, book[book::FRAME]);
+    let left = std::num::wrapping_sub_usize(came, loaded);
+    night_text::say(
+        b"\nmap files: \x01 delivered, \x01 loaded, \x01 still to load\n",
+        &[book[book::DELIVERED + 1], loaded, left],
+        0,
+    );
+    night_text::say(
+        b"units refused for want of room (15) and offered again: \x01\nunits that came back changed: \x01\n",
+        &book,
+        book::NO_ROOM,
+    );
+    pages(book);
 }

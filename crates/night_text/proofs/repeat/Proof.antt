@@ -1,8 +1,8 @@
--- `night::text::repeat` is safe and ends. Assumes nothing.
+-- `night_text::repeat` is safe and ends. Assumes nothing.
 use Prim.Native.Nat.{_-_}
 use borrow.Author.Needs.{needs}
-use Rattle.night.proofs.text.repeat.Statement.{statement}
-use Rattle.night.proofs.text.repeat.Tie as tie
+use Rattle.night_text.proofs.repeat.Statement.{statement}
+use Rattle.night_text.proofs.repeat.Tie as tie
 
 abbrev Inv-loop : tie.InvT-loop
 Inv-loop s n left₀ left = Unit {0}
@@ -13,8 +13,8 @@ abbrev μ-loop : tie.MeasureT-loop
 loop-holds : tie.Need-loop-holds Inv-loop μ-loop
 loop-holds c = search needs
 
-say-requires : tie.Need-say-requires Inv-loop μ-loop
-say-requires c κs = search needs
+write-requires : tie.Need-write-requires Inv-loop μ-loop
+write-requires c κs = search needs
 
 sub-left : tie.Need-sub-left Inv-loop μ-loop
 sub-left c = search needs
@@ -31,4 +31,4 @@ returns c = search needs
 pub repeat-spec : {M : Type 1} → statement M
 repeat-spec =
     tie.close
-    (tie.spec Inv-loop μ-loop loop-holds say-requires sub-left loop-less loop-again returns)
+    (tie.spec Inv-loop μ-loop loop-holds write-requires sub-left loop-less loop-again returns)

@@ -1,16 +1,16 @@
--- `night::wish::arguments` is safe and ends. Assumes nothing.
+-- `night_plan::wish::arguments` is safe and ends. Assumes nothing.
 use mathlib.Core.Path.{_≡_}
 use Prim.Native.Nat.{_-_, _≤_}
 use lib.ListN.{length}
 use borrow.Author.Needs.{needs}
-use Rattle.night.proofs.wish.arguments.Statement.{statement}
-use Rattle.night.proofs.wish.arguments.Tie as tie
+use Rattle.night_plan.proofs.wish.arguments.Statement.{statement}
+use Rattle.night_plan.proofs.wish.arguments.Tie as tie
 
 abbrev Inv-loop : tie.InvT-loop
-Inv-loop plan₀ n i₀ whole₀ plan i whole = (length plan ≡ length plan₀)
+Inv-loop v₀ n i₀ whole₀ v i whole = (length v ≡ length v₀)
 
 abbrev μ-loop : tie.MeasureT-loop
-μ-loop plan₀ n i₀ whole₀ plan i whole = n - i
+μ-loop v₀ n i₀ whole₀ v i whole = n - i
 
 arg-count-requires : tie.Need-arg-count-requires Inv-loop μ-loop
 arg-count-requires c κs = search needs

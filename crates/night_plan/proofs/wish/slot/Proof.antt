@@ -1,23 +1,29 @@
--- `night::wish::slot` is safe and ends. Assumes nothing.
+-- `night_plan::wish::slot` is safe and ends. Assumes nothing.
 use Prim.Native.Nat.{_≤_, _-_}
 use borrow.Author.Needs.{needs}
-use Rattle.night.proofs.wish.slot.Statement.{statement}
-use Rattle.night.proofs.wish.slot.Tie as tie
+use Rattle.night_plan.proofs.wish.slot.Statement.{statement}
+use Rattle.night_plan.proofs.wish.slot.Tie as tie
 
 abbrev Inv-loop : tie.InvT-loop
-Inv-loop list name k₀ k = (k ≤ 14)
+Inv-loop names name k₀ k = (k ≤ 14)
 
 abbrev μ-loop : tie.MeasureT-loop
-μ-loop list name k₀ k = 14 - k
+μ-loop names name k₀ k = 14 - k
 
 loop-holds : tie.Need-loop-holds Inv-loop μ-loop
 loop-holds c = search needs
 
-mul-is-at : tie.Need-mul-is-at Inv-loop μ-loop
-mul-is-at c = search needs
+mul-at : tie.Need-mul-at Inv-loop μ-loop
+mul-at c = search needs
 
-is-at-requires : tie.Need-is-at-requires Inv-loop μ-loop
-is-at-requires c κs = search needs
+plus-requires : tie.Need-plus-requires Inv-loop μ-loop
+plus-requires c κs = search needs
+
+between-requires : tie.Need-between-requires Inv-loop μ-loop
+between-requires c κs = search needs
+
+same-requires : tie.Need-same-requires Inv-loop μ-loop
+same-requires c κs = search needs
 
 returns : tie.Need-returns Inv-loop μ-loop
 returns c = search needs
@@ -41,8 +47,10 @@ slot-spec =
     Inv-loop
     μ-loop
     loop-holds
-    mul-is-at
-    is-at-requires
+    mul-at
+    plus-requires
+    between-requires
+    same-requires
     returns
     add-k
     loop-less

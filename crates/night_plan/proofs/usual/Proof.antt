@@ -1,28 +1,28 @@
--- `night::make` is safe and ends. Assumes nothing.
+-- `night_plan::usual` is safe and ends. Assumes nothing.
 use mathlib.Core.Path.{_≡_}
 use Prim.Native.Nat.{_≤_, _-_}
 use lib.ListN.{length}
 use borrow.Author.Needs.{needs}
-use Rattle.night.proofs.make.Statement.{statement}
-use Rattle.night.proofs.make.Tie as tie
+use Rattle.night_plan.proofs.usual.Statement.{statement}
+use Rattle.night_plan.proofs.usual.Tie as tie
 
 abbrev Inv-loop : tie.InvT-loop
-Inv-loop bytes₀ x₀ i₀ bytes x i = (i ≤ length bytes₀) × (length bytes ≡ length bytes₀)
+Inv-loop v₀ usual i₀ v i = (i ≤ 14) × (length v ≡ length v₀)
 
 abbrev μ-loop : tie.MeasureT-loop
-μ-loop bytes₀ x₀ i₀ bytes x i = length bytes₀ - i
+μ-loop v₀ usual i₀ v i = 14 - i
 
 loop-holds : tie.Need-loop-holds Inv-loop μ-loop
 loop-holds c = search needs
 
-wrapping-add-u32-requires : tie.Need-wrapping-add-u32-requires Inv-loop μ-loop
-wrapping-add-u32-requires c κs = search needs
+mul-put : tie.Need-mul-put Inv-loop μ-loop
+mul-put c = search needs
 
-cast-bytes : tie.Need-cast-bytes Inv-loop μ-loop
-cast-bytes c = search needs
+array-read-put : tie.Need-array-read-put Inv-loop μ-loop
+array-read-put c = search needs
 
-slice-write-bytes : tie.Need-slice-write-bytes Inv-loop μ-loop
-slice-write-bytes c = search needs
+put-requires : tie.Need-put-requires Inv-loop μ-loop
+put-requires c κs = search needs
 
 add-i : tie.Need-add-i Inv-loop μ-loop
 add-i c = search needs
@@ -39,16 +39,16 @@ same-length c = search needs
 returns : tie.Need-returns Inv-loop μ-loop
 returns c = search needs
 
-pub make-spec : {M : Type 1} → statement M
-make-spec =
+pub usual-spec : {M : Type 1} → statement M
+usual-spec =
     tie.close
     (tie.spec
     Inv-loop
     μ-loop
     loop-holds
-    wrapping-add-u32-requires
-    cast-bytes
-    slice-write-bytes
+    mul-put
+    array-read-put
+    put-requires
     add-i
     loop-less
     loop-again

@@ -1,21 +1,27 @@
--- `night::wish::sign` is safe and ends. Assumes nothing.
+-- `night_plan::is_filled` is safe and ends. Assumes nothing.
 use Prim.Native.Nat.{_-_}
 use lib.ListN.{length}
 use borrow.Author.Needs.{needs}
-use Rattle.night.proofs.wish.sign.Statement.{statement}
-use Rattle.night.proofs.wish.sign.Tie as tie
+use Rattle.night_plan.proofs.is_filled.Statement.{statement}
+use Rattle.night_plan.proofs.is_filled.Tie as tie
 
 abbrev Inv-loop : tie.InvT-loop
-Inv-loop s i₀ i = Unit {0}
+Inv-loop unit start i₀ i = Unit {0}
 
 abbrev μ-loop : tie.MeasureT-loop
-μ-loop s i₀ i = length s - i
+μ-loop unit start i₀ i = length unit - i
 
 loop-holds : tie.Need-loop-holds Inv-loop μ-loop
 loop-holds c = search needs
 
 shared-slice-read-if1 : tie.Need-shared-slice-read-if1 Inv-loop μ-loop
 shared-slice-read-if1 c = search needs
+
+plus-requires : tie.Need-plus-requires Inv-loop μ-loop
+plus-requires c κs = search needs
+
+byte-requires : tie.Need-byte-requires Inv-loop μ-loop
+byte-requires c κs = search needs
 
 returns : tie.Need-returns Inv-loop μ-loop
 returns c = search needs
@@ -32,14 +38,16 @@ loop-again c = search needs
 returns-2 : tie.Need-returns-2 Inv-loop μ-loop
 returns-2 c = search needs
 
-pub sign-spec : {M : Type 1} → statement M
-sign-spec =
+pub is-filled-spec : {M : Type 1} → statement M
+is-filled-spec =
     tie.close
     (tie.spec
     Inv-loop
     μ-loop
     loop-holds
     shared-slice-read-if1
+    plus-requires
+    byte-requires
     returns
     add-i
     loop-less
