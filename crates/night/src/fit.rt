@@ -1,5 +1,4 @@
 // Units offered to the sender, and whether the night can be run.
-use crate::book;
 use night_plan::SLOTS;
 use night_text::list;
 use sender::Loaded;
@@ -8,7 +7,7 @@ use sender::Sender;
 // The next unit of a queue.
 pub(crate) fn offer(book: [usize; SLOTS], s: Sender, id: usize, store: &mut [u8]) -> Loaded {
     let mut room = [0u8; 4096];
-    night_plan::make(book, id, book[book::LOADED + id % 3], &mut room);
+    night_plan::make(book, id, book[night_book::LOADED + id % 3], &mut room);
     let n = night_plan::size(book, id);
     s.load(
         night_plan::settings(book),
@@ -40,7 +39,10 @@ pub(crate) fn is_fit(book: [usize; SLOTS], store: &mut [u8]) -> bool {
     let number = number(book, store);
     if number == 13 {
         night_text::write(
-            b"night: the settings are refused (13). Their limits: p from 1 to 255; n from 1,\nwith n(p+3) at most 8190; each share at most its ceiling; each ceiling from 1\nto n; the three shares together at most n.\n",
+            b"night: the settings are refused (13). Their limits: p from 1 to 255; n from 1,
+with n(p+3) at most 8190; each share at most its ceiling; each ceiling from 1
+to n; the three shares together at most n.
+",
         );
         return false;
     }

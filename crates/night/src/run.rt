@@ -1,7 +1,5 @@
 // The night, frame by frame: what is due is loaded, the sender makes a frame, the receiver gets its packets.
-use crate::book;
 use crate::fit;
-use crate::table;
 use night_plan::SLOTS;
 use night_text::list;
 use receiver::Answer;
@@ -27,9 +25,9 @@ fn waiting(s: Sender, id: usize, p: usize) -> usize {
 // A unit of the queue is due, and none was refused before this frame.
 fn is_due(book: [usize; SLOTS], id: usize) -> bool {
     let i = id % 3;
-    let frame = book[book::FRAME];
+    let frame = book[night_book::FRAME];
     let came = night_plan::came(book, id, frame);
-    (book[book::LOADED + i] < came) & (book[book::REFUSED + i] != frame)
+    (book[night_book::LOADED + i] < came) & (book[night_book::REFUSED + i] != frame)
 }
 
 // The next unit of a queue, where one is due. Where there is no room (15) nothing is changed, and it is tried again before the next frame.
@@ -42,7 +40,7 @@ fn load(n: Night, id: usize, store: &mut [u8]) -> Night {
     let s = done.next;
     let r = n.r;
     let waiting = waiting(s, id, book[night_plan::P]);
-    let book = book::note(book, id, done.number, waiting);
+    let book = night_book::note(book, id, done.number, waiting);
     Night { s, r, book }
 }
 
@@ -62,8 +60,8 @@ fn begin(n: Night) -> Night {
     let s = n.s;
     let r = n.r;
     let mut book = n.book;
-    book[book::FRAME] = list::plus(book[book::FRAME], 1);
-    table::start(book);
+    book[night_book::FRAME] = list::plus(book[night_book::FRAME], 1);
+    night_book::start(book);
     Night { s, r, book }
 }
 
@@ -74,7 +72,7 @@ fn send(n: Night, store: &mut [u8], out: &mut [u8]) -> Night {
     let r = n.r;
     let book = n.book;
     let done = s.frame(night_plan::settings(book), store, out);
-    let book = book::count(book, done.packets, done.filler);
+    let book = night_book::count(book, done.packets, done.filler);
     let s = done.next;
     Night { s, r, book }
 }
@@ -84,7 +82,7 @@ fn take(book: [usize; SLOTS], answer: Answer, buffer: &[u8]) -> [usize; SLOTS] {
     if let Answer::Delivered { id, length } = answer {
         let id = (id % 4) as usize;
         let at = id * 4096;
-        return book::deliver(book, id, list::between(buffer, at, list::plus(at, length)));
+        return night_book::deliver(book, id, list::between(buffer, at, list::plus(at, length)));
     }
     book
 }
@@ -122,11 +120,11 @@ fn end(n: Night) -> Night {
     let s = n.s;
     let r = n.r;
     let book = n.book;
-    if !table::is_due(book) {
+    if !night_book::is_line_due(book) {
         return n;
     }
     let p = book[night_plan::P];
-    let book = book::show(book, waiting(s, 0, p), waiting(s, 1, p), waiting(s, 2, p));
+    let book = night_book::show(book, waiting(s, 0, p), waiting(s, 1, p), waiting(s, 2, p));
     Night { s, r, book }
 }
 

@@ -64,7 +64,16 @@ fn place(name: &[u8]) -> usize {
 
 fn usage() {
     night_text::write(
-        b"usage: night [NAME=NUMBER ..]\n  p          data bytes of a packet                              97\n  n          packets of a frame                                  12\n  share0, share1, share2           packets that a queue is owed  4, 5, 1\n  ceiling0, ceiling1, ceiling2     the most that it gets         10, 12, 3\n  news, map, station               bytes of a unit of its queue  1800, 1300, 150\n  every      frames from one news page to the next               5\n  files      map files of the job                                16\n  frames     frames of the night, a quarter of them an hour      80\n",
+        b"usage: night [NAME=NUMBER ..]
+  p          data bytes of a packet                              97
+  n          packets of a frame                                  12
+  share0, share1, share2           packets that a queue is owed  4, 5, 1
+  ceiling0, ceiling1, ceiling2     the most that it gets         10, 12, 3
+  news, map, station               bytes of a unit of its queue  1800, 1300, 150
+  every      frames from one news page to the next               5
+  files      map files of the job                                16
+  frames     frames of the night, a quarter of them an hour      80
+",
     );
 }
 

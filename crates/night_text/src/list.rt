@@ -15,13 +15,6 @@ pub fn plus(x: usize, y: usize) -> usize {
     std::num::wrapping_add_usize(x, y)
 }
 
-// The number at a place grows.
-pub fn add(s: &mut [usize], i: usize, x: usize) {
-    if i < s.len() {
-        s[i] = std::num::wrapping_add_usize(s[i], x);
-    }
-}
-
 // x over n, rounded up; 0 where n is 0.
 pub fn over(x: usize, n: usize) -> usize {
     if n == 0 {

@@ -1,5 +1,4 @@
 // The table that is printed: a line for some frames together, and the lines at the end. night_text::say tells what the marks mean.
-use crate::book;
 use night_plan::SLOTS;
 use night_text::list;
 
@@ -28,7 +27,7 @@ fn hours(frame: usize, hour: usize) -> usize {
 
 // The number of a frame, and the wall clock. The hour from two to three comes twice: A in summer time, B in winter time.
 fn stamp(book: [usize; SLOTS]) {
-    let n = book[book::FRAME];
+    let n = book[crate::FRAME];
     let frame = std::num::wrapping_sub_usize(n, 1);
     let hour = night_plan::hour(book);
     let h = hours(frame, hour) % 4 * 10;
@@ -43,8 +42,8 @@ fn told(book: [usize; SLOTS], text: &[u8]) {
 }
 
 // The job's start, where it is two o'clock by the wall clock.
-pub(crate) fn start(book: [usize; SLOTS]) {
-    let frame = book[book::FRAME];
+pub fn start(book: [usize; SLOTS]) {
+    let frame = book[crate::FRAME];
     let hour = night_plan::hour(book);
     if frame == list::plus(hour, 1) {
         told(book, b"two o'clock: the job starts, \x01 map files\n");
@@ -83,12 +82,12 @@ pub(crate) fn grain(n: usize) -> usize {
 }
 
 // A line is due after this frame.
-pub(crate) fn is_due(book: [usize; SLOTS]) -> bool {
+pub fn is_line_due(book: [usize; SLOTS]) -> bool {
     let step = list::over(book[night_plan::FRAMES], LINES);
     if step == 0 {
         return false;
     }
-    book[book::FRAME] % step == 0
+    book[crate::FRAME] % step == 0
 }
 
 pub(crate) fn line(book: [usize; SLOTS]) {
@@ -96,13 +95,16 @@ pub(crate) fn line(book: [usize; SLOTS]) {
     night_text::say(
         b"\x06\x06\x06\x06  \x05\x05\x05   \xb0\xb1\xb2\xae\n",
         &book,
-        book::SUM,
+        crate::SUM,
     );
 }
 
-pub(crate) fn head(book: [usize; SLOTS]) {
+pub fn head(book: [usize; SLOTS]) {
     night_text::say(
-        b"The Sunday with two two-o'clocks. Three queues share one stream of packets:\n0 news pages, 1 map files, 2 station data; a dot is filler. The job that loads\nthe \x01 map files starts at two o'clock, and so it starts twice.\n",
+        b"The Sunday with two two-o'clocks. Three queues share one stream of packets:
+0 news pages, 1 map files, 2 station data; a dot is filler. The job that loads
+the \x01 map files starts at two o'clock, and so it starts twice.
+",
         &book,
         night_plan::FILES,
     );
@@ -115,34 +117,41 @@ pub(crate) fn head(book: [usize; SLOTS]) {
         );
     }
     night_text::write(
-        b"\n                 packets sent of queue  packets waiting   the last frame,\nframe  time        0     1     2  fill      0    1    2   packet by packet\n",
+        b"
+                 packets sent of queue  packets waiting   the last frame,
+frame  time        0     1     2  fill      0    1    2   packet by packet
+",
     );
 }
 
 // The line of the news pages.
 fn pages(book: [usize; SLOTS]) {
-    if book[book::DELIVERED] == 0 {
+    if book[crate::DELIVERED] == 0 {
         night_text::write(b"news pages: none delivered\n");
         return;
     }
-    night_text::say(b"news pages: \x01 delivered, ", &book, book::DELIVERED);
-    night_text::say(b"\x01 late, longest wait ", &book, book::LATE);
-    wait(book[book::LONGEST], book[book::PROMISE]);
+    night_text::say(b"news pages: \x01 delivered, ", &book, crate::DELIVERED);
+    night_text::say(b"\x01 late, longest wait ", &book, crate::LATE);
+    wait(book[crate::LONGEST], book[crate::PROMISE]);
 }
 
-pub(crate) fn end(book: [usize; SLOTS]) {
-    let loaded = book[book::LOADED + 1];
-    let came = night_plan::came(book, night_plan::MAPS, book[book::FRAME]);
+pub fn end(book: [usize; SLOTS]) {
+    let loaded = book[crate::LOADED + 1];
+    let came = night_plan::came(book, night_plan::MAPS, book[crate::FRAME]);
     let left = std::num::wrapping_sub_usize(came, loaded);
     night_text::say(
-        b"\nmap files: \x01 delivered, \x01 loaded, \x01 still to load\n",
-        &[book[book::DELIVERED + 1], loaded, left],
+        b"
+map files: \x01 delivered, \x01 loaded, \x01 still to load
+",
+        &[book[crate::DELIVERED + 1], loaded, left],
         0,
     );
     night_text::say(
-        b"units refused for want of room (15) and offered again: \x01\nunits that came back changed: \x01\n",
+        b"units refused for want of room (15) and offered again: \x01
+units that came back changed: \x01
+",
         &book,
-        book::NO_ROOM,
+        crate::NO_ROOM,
     );
     pages(book);
 }

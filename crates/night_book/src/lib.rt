@@ -1,43 +1,48 @@
-// What is written down along the night, behind the numbers of the plan. A number a queue stands in three places, by id, one with filler
-// in four.
-use crate::table;
+// What is written down along the night, behind the numbers of the plan, and printed. A number a queue stands in three places, by id, one
+// with filler in four.
+mod table;
+
 use hand::Three;
 use night_plan::SLOTS;
 use night_text::list;
+pub use table::end;
+pub use table::head;
+pub use table::is_line_due;
+pub use table::start;
 
 // the frame that is made, counted from 1
-pub(crate) const FRAME: usize = 14;
+pub const FRAME: usize = 14;
 
 // units loaded; the frame before which one was last refused; units delivered, with those of filler's id, of which there are none
-pub(crate) const LOADED: usize = 15;
+pub const LOADED: usize = 15;
 
-pub(crate) const REFUSED: usize = 18;
+pub const REFUSED: usize = 18;
 
-pub(crate) const DELIVERED: usize = 21;
+pub const DELIVERED: usize = 21;
 
 // refusals for want of room, and behind it units that came back changed
-pub(crate) const NO_ROOM: usize = 25;
+pub const NO_ROOM: usize = 25;
 
-pub(crate) const CHANGED: usize = 26;
+pub const CHANGED: usize = 26;
 
 // what a line shows, in its order: packets of each queue and filler since the last line; packets that wait; the bar of the last frame
-pub(crate) const SUM: usize = 27;
+pub const SUM: usize = 27;
 
-pub(crate) const WAITING: usize = 31;
+pub const WAITING: usize = 31;
 
-pub(crate) const BAR: usize = 34;
+pub const BAR: usize = 34;
 
 // of the news pages: those that came late, the longest wait and its promise
-pub(crate) const LATE: usize = 38;
+pub const LATE: usize = 38;
 
-pub(crate) const LONGEST: usize = 39;
+pub const LONGEST: usize = 39;
 
-pub(crate) const PROMISE: usize = 40;
+pub const PROMISE: usize = 40;
 
 // by the page's number modulo 8, since at most eight are unfinished: the frame before which it was loaded, and the frames promised
-pub(crate) const SINCE: usize = 41;
+pub const SINCE: usize = 41;
 
-pub(crate) const BOUND: usize = 49;
+pub const BOUND: usize = 49;
 
 // Packets of a queue, or filler, in a frame: counted, and as so many characters of the bar.
 fn count_one(book: [usize; SLOTS], id: usize, n: usize) -> [usize; SLOTS] {
@@ -49,7 +54,7 @@ fn count_one(book: [usize; SLOTS], id: usize, n: usize) -> [usize; SLOTS] {
 }
 
 // The packets of a frame.
-pub(crate) fn count(book: [usize; SLOTS], packets: Three, filler: usize) -> [usize; SLOTS] {
+pub fn count(book: [usize; SLOTS], packets: Three, filler: usize) -> [usize; SLOTS] {
     let book = count_one(book, 0, packets.a);
     let book = count_one(book, 1, packets.b);
     let book = count_one(book, 2, packets.c);
@@ -57,7 +62,7 @@ pub(crate) fn count(book: [usize; SLOTS], packets: Three, filler: usize) -> [usi
 }
 
 // The line of the table, with the packets that wait in each queue; the sums begin anew.
-pub(crate) fn show(book: [usize; SLOTS], a: usize, b: usize, c: usize) -> [usize; SLOTS] {
+pub fn show(book: [usize; SLOTS], a: usize, b: usize, c: usize) -> [usize; SLOTS] {
     let mut next = book;
     next[WAITING] = a;
     next[WAITING + 1] = b;
@@ -80,7 +85,7 @@ fn open_page(book: [usize; SLOTS], k: usize, waiting: usize) -> [usize; SLOTS] {
 }
 
 // The number that the next unit of a queue got, and the packets that wait in the queue now: the unit is loaded, or there was no room.
-pub(crate) fn note(book: [usize; SLOTS], id: usize, number: u32, waiting: usize) -> [usize; SLOTS] {
+pub fn note(book: [usize; SLOTS], id: usize, number: u32, waiting: usize) -> [usize; SLOTS] {
     let mut b = book;
     let i = id % 3;
     if number != 0 {
@@ -115,7 +120,7 @@ fn close_page(book: [usize; SLOTS], k: usize) -> [usize; SLOTS] {
 }
 
 // A unit of a queue came out of the receiver: it is as it was loaded, or not; a news page is shown, with its wait.
-pub(crate) fn deliver(book: [usize; SLOTS], id: usize, unit: &[u8]) -> [usize; SLOTS] {
+pub fn deliver(book: [usize; SLOTS], id: usize, unit: &[u8]) -> [usize; SLOTS] {
     let mut b = book;
     let i = id % 4;
     let k = b[DELIVERED + i];
