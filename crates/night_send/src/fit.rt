@@ -35,7 +35,7 @@ fn number(book: [usize; SLOTS], store: &mut [u8]) -> u32 {
 }
 
 // The night can be run; where it cannot, a sentence says why.
-pub(crate) fn is_fit(book: [usize; SLOTS], store: &mut [u8]) -> bool {
+pub fn is_fit(book: [usize; SLOTS], store: &mut [u8]) -> bool {
     let number = number(book, store);
     if number == 13 {
         night_text::write(

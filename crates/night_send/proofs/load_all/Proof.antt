@@ -1,10 +1,10 @@
--- `night::run::load_all` is safe and ends. Assumes nothing.
+-- `night_send::load_all` is safe and ends. Assumes nothing.
 use mathlib.Core.Path.{_≡_}
 use Prim.Native.Nat.{_≤_, _-_}
 use lib.ListN.{length}
 use borrow.Author.Needs.{needs}
-use Rattle.night.proofs.run.load_all.Statement.{statement}
-use Rattle.night.proofs.run.load_all.Tie as tie
+use Rattle.night_send.proofs.load_all.Statement.{statement}
+use Rattle.night_send.proofs.load_all.Tie as tie
 
 abbrev Inv-loop : tie.InvT-loop
 Inv-loop store₀ next₀ turn₀ store next turn = (turn ≤ 27) × (length store ≡ length store₀)
