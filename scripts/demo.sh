@@ -46,8 +46,9 @@ began=$(date +%s) seen=0
 display=$!
 trap 'kill "$display" 2>/dev/null; exit 130' INT TERM
 status=0
+# four crates stand side by side in two of the levels here, so that one job more saves a batch in each
 # shellcheck disable=SC2086
-RT_JOBS=${RT_JOBS:-$(jobs_for_cores)} rt check $programs >"$log" 2>&1 || status=$?
+RT_JOBS=${RT_JOBS:-$(($(jobs_for_cores) + 1))} rt check $programs >"$log" 2>&1 || status=$?
 echo "$status" >target/demo.status
 wait "$display"
 [ ! -t 1 ] || printf '\r\033[K'
