@@ -3,28 +3,9 @@
 use cases::case;
 use cases::case::Taken;
 use saying::Said;
-use stream_values::Run;
 
 // The most steps of a script.
 const STEPS: u8 = 24;
-
-fn step(r: Run, call: u8, body: &[u8], one: &mut [u8], two: &mut [u8]) -> Run {
-    match call {
-        35 => stream_sending::send(r, body, one, two),
-        36 => stream_hearing::hear(r, body, one),
-        _ => stream_hearing::pass(r, body, one, two),
-    }
-}
-
-fn play(first: Run, call: u8, steps: u8, body: &[u8], one: &mut [u8], two: &mut [u8]) -> Run {
-    let mut r = first;
-    let mut left = steps;
-    while 0 < left {
-        r = step(r, call, body, one, two);
-        left -= 1;
-    }
-    r
-}
 
 // The buffers that an answer gives.
 fn buffers(call: u8) -> u8 {
@@ -49,7 +30,7 @@ fn known(call: u8, body: &[u8], at: usize) -> bool {
 // The script whose number of steps stands at a position of the body.
 fn script(call: u8, body: &[u8], at: usize, whole: bool, one: &mut [u8], two: &mut [u8]) -> Said {
     let first = stream_values::begun(call, body, case::past(at, 1), whole & known(call, body, at));
-    let r = play(first, call, steps(body, at), body, one, two);
+    let r = stream_play::play(first, call, steps(body, at), body, one, two);
     stream_values::told(r, call, r.at == body.len())
 }
 

@@ -3,6 +3,7 @@
 use cases::answer;
 use cases::case;
 use cases::input;
+use cases::input::Case;
 
 // The answer to one case, at the front of out.
 fn answer_to(call: u8, body: &[u8], out: &mut [u8]) -> usize {
@@ -17,15 +18,24 @@ fn answer_to(call: u8, body: &[u8], out: &mut [u8]) -> usize {
     }
 }
 
-// Reads a case and writes its answer. False where no further case can be read.
+// The call of a case; 0, which is none, where the case is cut off.
+fn called(next: Case) -> u8 {
+    if next.whole { next.call } else { 0 }
+}
+
+// False where no further case can be read.
+fn write(next: Case, answer: &[u8]) -> bool {
+    io::write_all(1, answer) & next.whole
+}
+
+// Reads a case and writes its answer.
 fn answer_next(body: &mut [u8], out: &mut [u8]) -> bool {
     let next = input::next(body);
     if next.ended {
         return false;
     }
-    let call = if next.whole { next.call } else { 0 };
-    let n = answer_to(call, case::front(body, next.size), out);
-    io::write_all(1, case::front(out, n)) & next.whole
+    let n = answer_to(called(next), case::front(body, next.size), out);
+    write(next, case::front(out, n))
 }
 
 // A proved loop has to end, and nothing says that the input does. So the loop counts its turns down, from a number that no run uses up.

@@ -1,9 +1,9 @@
--- `answer_stream::play` is safe and ends. Assumes nothing.
+-- `stream_play::play` is safe and ends. Assumes nothing.
 use mathlib.Core.Path.{_≡_}
 use lib.ListN.{length}
 use borrow.Author.Needs.{needs}
-use Rattle.answer_stream.proofs.play.Statement.{statement}
-use Rattle.answer_stream.proofs.play.Tie as tie
+use Rattle.stream_play.proofs.play.Statement.{statement}
+use Rattle.stream_play.proofs.play.Tie as tie
 
 abbrev Inv-loop : tie.InvT-loop
 Inv-loop call steps body one₀ two₀ r₀ left₀ one two r left = (length one ≡ length one₀) × (length two ≡ length two₀)
