@@ -1,11 +1,10 @@
-// Calls 16 and 17 of docs/CASES.md: a frame built from its streams, and cut into them. Nothing here decides an answer.
+// Call 16 of docs/CASES.md: a frame built from its streams. Nothing here decides an answer.
 ghost use Prim.Native.Nat.{_≤_};
 ghost use lib.ListN.{length};
 use cases::answer;
 use cases::case;
 use cases::case::Taken;
 use description::Description;
-use frames::Streams;
 use saying::Said;
 
 // What stands in a body before the buffers: capacity, description, MSC mode.
@@ -114,104 +113,11 @@ fn build(body: &[u8], room: &mut [u8; 131072], out: &mut [u8]) -> usize {
     build_in(body, &mut rooms, room, out)
 }
 
-fn said_lengths(done: Streams) -> Said {
-    let n = done.len;
-    let three = saying::three(
-        saying::begin(done.number, 0),
-        n[0] as u64,
-        n[1] as u64,
-        n[2] as u64,
-    );
-    saying::value(three, n[3] as u64)
-}
-
-fn cut_of(
-    body: &[u8],
-    frame: &[u8],
-    a: &mut [u8],
-    b: &mut [u8],
-    c: &mut [u8],
-    d: &mut [u8],
-) -> Said {
-    said_lengths(frames::cut(
-        capacity_in(body),
-        described(body),
-        mode_in(body),
-        frame,
-        a,
-        b,
-        c,
-        d,
-    ))
-}
-
-// The outputs stand at the front of w to z.
-fn cut_to(
-    body: &[u8],
-    frame: &[u8],
-    n: [usize; 4],
-    w: &mut [u8],
-    x: &mut [u8],
-    y: &mut [u8],
-    z: &mut [u8],
-    out: &mut [u8],
-) -> usize {
-    let a = case::front_mut(w, n[0]);
-    let b = case::front_mut(x, n[1]);
-    let c = case::front_mut(y, n[2]);
-    let d = case::front_mut(z, n[3]);
-    let said = cut_of(body, frame, a, b, c, d);
-    saying::lent_four(out, said, a, b, c, d)
-}
-
-fn take(body: &[u8], at: usize, room: &mut [u8; 131072]) -> Taken {
-    case::buffer(body, at, room)
-}
-
-fn cut_in(
-    body: &[u8],
-    at: usize,
-    frame: &[u8],
-    w: &mut [u8; 131072],
-    x: &mut [u8; 131072],
-    y: &mut [u8; 131072],
-    z: &mut [u8; 131072],
-    out: &mut [u8],
-) -> usize {
-    let a = take(body, at, w);
-    let b = take(body, a.next, x);
-    let c = take(body, b.next, y);
-    let d = take(body, c.next, z);
-    if case::ends(d, body) {
-        return cut_to(body, frame, [a.len, b.len, c.len, d.len], w, x, y, z, out);
+fn answer_in(call: u8, body: &[u8], room: &mut [u8; 131072], out: &mut [u8]) -> usize {
+    if call == 16 {
+        return build(body, room, out);
     }
     answer::none(out)
-}
-
-fn cut(body: &[u8], room: &mut [u8; 131072], out: &mut [u8]) -> usize {
-    let mut w = [0u8; case::BUFFER];
-    let mut x = [0u8; case::BUFFER];
-    let mut y = [0u8; case::BUFFER];
-    let mut z = [0u8; case::BUFFER];
-    let s = case::buffer(body, HEAD, room);
-    cut_in(
-        body,
-        s.next,
-        case::front(room, s.len),
-        &mut w,
-        &mut x,
-        &mut y,
-        &mut z,
-        out,
-    )
-}
-
-fn answer_in(call: u8, body: &[u8], room: &mut [u8; 131072], out: &mut [u8]) -> usize {
-    match call {
-        16 => build(body, room, out),
-        17 => cut(body, room, out),
-        _ => answer::none(out),
-    }
 }
 
 // The answer to a case of this group, at the front of out.

@@ -10,7 +10,8 @@ fn answer_to(call: u8, body: &[u8], out: &mut [u8]) -> usize {
     match call {
         1..=9 | 20..=34 => answer_simple::answer(call, body, out),
         10..=15 => answer_description::answer(call, body, out),
-        16 | 17 => answer_frame::answer(call, body, out),
+        16 => answer_frame::answer(call, body, out),
+        17 => answer_cut::answer(call, body, out),
         40..=42 | 45 => answer_mdi::answer(call, body, out),
         43 | 44 => answer_fac::answer(call, body, out),
         35..=37 => answer_stream::answer(call, body, out),
