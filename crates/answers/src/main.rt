@@ -12,9 +12,9 @@ fn answer_to(call: u8, body: &[u8], out: &mut [u8]) -> usize {
         10..=15 => answer_description::answer(call, body, out),
         16 => answer_frame::answer(call, body, out),
         17 => answer_cut::answer(call, body, out),
+        35..=37 => answer_stream::answer(call, body, out),
         40..=42 | 45 => answer_mdi::answer(call, body, out),
         43 | 44 => answer_fac::answer(call, body, out),
-        35..=37 => answer_stream::answer(call, body, out),
         _ => answer::none(out),
     }
 }

@@ -26,23 +26,6 @@ pub fn begin(out: &mut [u8], number: u32, place: u64, values: u8) -> usize
     14
 }
 
-// One value. Answers where the next part goes.
-pub fn value(out: &mut [u8], at: usize, x: u64) -> usize
-    ensures { λ r. ⌜ r ≡ min (at + 8) 1048576 ⌝ }
-{
-    fields::write64(out, at, x);
-    case::past(at, 8)
-}
-
-// Three values, one behind the other.
-pub fn three(out: &mut [u8], at: usize, x: u64, y: u64, z: u64) -> usize
-    ensures { λ r. ⌜ r ≤ 1048576 ⌝ }
-{
-    let at = value(out, at, x);
-    let at = value(out, at, y);
-    value(out, at, z)
-}
-
 // How many buffers follow.
 pub fn buffers(out: &mut [u8], at: usize, n: u8) -> usize
     ensures { λ r. ⌜ r ≡ min (at + 1) 1048576 ⌝ }
@@ -89,46 +72,6 @@ pub fn buffer(out: &mut [u8], at: usize, s: &[u8]) -> usize
     fields::write16(out, start, crc::crc16(s));
     fields::write32(out, case::past(start, 2), sum(s));
     case::past(start, 6)
-}
-
-// The answer of a call that gives nothing back but its number and place.
-pub fn number_alone(out: &mut [u8], number: u32, place: u64) -> usize
-    ensures { λ r. ⌜ r ≤ 1048576 ⌝ }
-{
-    let at = begin(out, number, place, 0);
-    let at = buffers(out, at, 0);
-    end(out, at)
-}
-
-// .. and one value.
-pub fn number_and_value(out: &mut [u8], number: u32, place: u64, x: u64) -> usize
-    ensures { λ r. ⌜ r ≤ 1048576 ⌝ }
-{
-    let at = begin(out, number, place, 1);
-    let at = value(out, at, x);
-    let at = buffers(out, at, 0);
-    end(out, at)
-}
-
-// .. and one lent buffer.
-pub fn number_and_buffer(out: &mut [u8], number: u32, place: u64, s: &[u8]) -> usize
-    ensures { λ r. ⌜ r ≤ 1048576 ⌝ }
-{
-    let at = begin(out, number, place, 0);
-    let at = buffers(out, at, 1);
-    let at = buffer(out, at, s);
-    end(out, at)
-}
-
-// .. and one value and one lent buffer: what a call that writes answers.
-pub fn written(out: &mut [u8], number: u32, place: u64, x: u64, s: &[u8]) -> usize
-    ensures { λ r. ⌜ r ≤ 1048576 ⌝ }
-{
-    let at = begin(out, number, place, 1);
-    let at = value(out, at, x);
-    let at = buffers(out, at, 1);
-    let at = buffer(out, at, s);
-    end(out, at)
 }
 
 // The answer to what is no case: of size 0.
