@@ -2,7 +2,6 @@
 // the library, and says what came back.
 ghost use mathlib.Core.Path.{_≡_};
 ghost use Rattle.answer_description.specs.Values.{lengthsIn, descriptionIn};
-use cases::answer;
 use cases::case;
 use description::Description;
 use description::Lengths;
@@ -68,38 +67,25 @@ pub fn with_description(said: Said, d: Description) -> Said {
     with_streams(front, stream)
 }
 
-fn description_read(s: &[u8], mode: u8) -> Said {
-    let got = description::read(s, mode);
+pub fn description_read(body: &[u8], s: &[u8]) -> Said {
+    let got = description::read(s, case::byte(body, 0));
     let d = got.description;
     with_description(saying::begin(got.number, 0), d)
 }
 
-fn entity_read(s: &[u8], mode: u8) -> Said {
-    let got = description::read_entity(s, mode);
+pub fn entity_read(body: &[u8], s: &[u8]) -> Said {
+    let got = description::read_entity(s, case::byte(body, 0));
     let d = got.description;
     with_description(saying::one(got.number, got.version as u64), d)
 }
 
-fn read_of(call: u8, mode: u8, s: &[u8]) -> Said {
-    if call == 10 {
-        return description_read(s, mode);
-    }
-    entity_read(s, mode)
-}
-
-fn reads(call: u8, body: &[u8], room: &mut [u8], out: &mut [u8]) -> usize {
-    let s = case::buffer(body, 1, room);
-    let said = read_of(call, case::byte(body, 0), case::front(room, s.len));
-    saying::alone(out, saying::only_if(said, case::ends(s, body)))
-}
-
-fn description_write(body: &[u8], dst: &mut [u8]) -> Said {
+pub fn description_write(body: &[u8], dst: &mut [u8]) -> Said {
     let mode = case::byte(body, 19);
     let done = description::write(description_at(body, 0), mode, dst);
     saying::one(done.number, done.length as u64)
 }
 
-fn entity_write(body: &[u8], dst: &mut [u8]) -> Said {
+pub fn entity_write(body: &[u8], dst: &mut [u8]) -> Said {
     let version = case::byte(body, 0);
     let mode = case::byte(body, 20);
     let done = description::write_entity(version, description_at(body, 1), mode, dst);
@@ -112,39 +98,11 @@ fn first_of(text: &[u8; 1024], n: usize) -> &[u8] {
 }
 
 // The text goes to an array of its own, and from there to the output, where that has room for it.
-fn text_write(input: &[u8], dst: &mut [u8]) -> Said {
+pub fn layout_write(input: &[u8], dst: &mut [u8]) -> Said {
     let mut text = [0u8; 1024];
     let n = layout_text::text(input, &mut text);
     let put = moves::put(first_of(&text, n), dst, 0);
     saying::one((put < n) as u32, put as u64)
-}
-
-fn write_of(call: u8, body: &[u8], input: &[u8], dst: &mut [u8]) -> Said {
-    match call {
-        11 => description_write(body, dst),
-        13 => entity_write(body, dst),
-        _ => text_write(input, dst),
-    }
-}
-
-// The output stands at a position of the body, behind the input where there is one.
-fn writes(
-    call: u8,
-    body: &[u8],
-    at: usize,
-    input: &[u8],
-    room: &mut [u8],
-    out: &mut [u8],
-) -> usize {
-    let s = case::buffer(body, at, room);
-    let dst = case::front_mut(room, s.len);
-    let said = write_of(call, body, input, dst);
-    saying::lent(out, saying::only_if(said, case::ends(s, body)), dst)
-}
-
-fn text(body: &[u8], one: &mut [u8], two: &mut [u8], out: &mut [u8]) -> usize {
-    let s = case::buffer(body, 0, one);
-    writes(15, body, s.next, case::front(one, s.len), two, out)
 }
 
 fn with_part(said: Said, x: Part) -> Said {
@@ -174,36 +132,7 @@ fn said_places(p: Places) -> Said {
     with_part(with_half(with_half(said, part, 0), part, 1), padding)
 }
 
-fn layout_of(body: &[u8]) -> Said {
+pub fn layout(body: &[u8]) -> Said {
     let capacity = fields::read64(body, 0) as usize;
     said_places(places::layout(capacity, description_at(body, 8), case::byte(body, 27)))
-}
-
-fn layout(body: &[u8], out: &mut [u8]) -> usize {
-    saying::alone(out, saying::only_if(layout_of(body), body.len() == 28))
-}
-
-// Arrays, and not slices, are handed on here: a proof need not count their bytes.
-fn answer_in(
-    call: u8,
-    body: &[u8],
-    one: &mut [u8; 131072],
-    two: &mut [u8; 131072],
-    out: &mut [u8],
-) -> usize {
-    match call {
-        10 | 12 => reads(call, body, one, out),
-        11 => writes(call, body, 20, body, one, out),
-        13 => writes(call, body, 21, body, one, out),
-        14 => layout(body, out),
-        15 => text(body, one, two, out),
-        _ => answer::none(out),
-    }
-}
-
-// The answer to a case of this group, at the front of out.
-pub fn answer(call: u8, body: &[u8], out: &mut [u8]) -> usize {
-    let mut one = [0u8; case::BUFFER];
-    let mut two = [0u8; case::BUFFER];
-    answer_in(call, body, &mut one, &mut two, out)
 }

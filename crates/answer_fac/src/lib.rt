@@ -1,6 +1,5 @@
-// Calls 43 and 44 of docs/CASES.md: the FAC, read and written. Nothing here decides an answer. Where the FAC stands in a body, and how it is
-// said, the calls of MDI packets share.
-use cases::answer;
+// Calls 43 and 44 of docs/CASES.md: the FAC, read and written. Nothing here decides an answer. Where the FAC stands in a body, and how
+// it is said, the calls of MDI packets share.
 use cases::case;
 use fac::Fac;
 use saying::Said;
@@ -64,41 +63,13 @@ pub fn with_fac(said: Said, f: Fac) -> Said {
     with_service(with_channel(said, f), f)
 }
 
-fn said_fac(s: &[u8]) -> Said {
+pub fn fac_read(s: &[u8]) -> Said {
     let got = fac::read(s);
     let f = got.fac;
     with_fac(saying::begin(got.number, 0), f)
 }
 
-fn read(body: &[u8], room: &mut [u8], out: &mut [u8]) -> usize {
-    let s = case::buffer(body, 0, room);
-    let said = said_fac(case::front(room, s.len));
-    saying::alone(out, saying::only_if(said, case::ends(s, body)))
-}
-
-fn said_written(body: &[u8], dst: &mut [u8]) -> Said {
+pub fn fac_write(body: &[u8], dst: &mut [u8]) -> Said {
     let done = fac::write(fac_at(body, 0), dst);
     saying::one(done.number, done.length as u64)
-}
-
-fn write(body: &[u8], room: &mut [u8], out: &mut [u8]) -> usize {
-    let s = case::buffer(body, SIZE, room);
-    let dst = case::front_mut(room, s.len);
-    let said = said_written(body, dst);
-    saying::lent(out, saying::only_if(said, case::ends(s, body)), dst)
-}
-
-// An array, and not a slice, is handed on here: a proof need not count its bytes.
-fn answer_in(call: u8, body: &[u8], room: &mut [u8; 131072], out: &mut [u8]) -> usize {
-    match call {
-        43 => read(body, room, out),
-        44 => write(body, room, out),
-        _ => answer::none(out),
-    }
-}
-
-// The answer to a case of this group, at the front of out.
-pub fn answer(call: u8, body: &[u8], out: &mut [u8]) -> usize {
-    let mut room = [0u8; case::BUFFER];
-    answer_in(call, body, &mut room, out)
 }

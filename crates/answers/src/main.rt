@@ -1,21 +1,18 @@
 // Answers cases on standard input through the library, in the framing of docs/CASES.md. The second program, in reference/, answers the
 // same cases from the documents alone, and the two are compared. Nothing here decides an answer: each group of calls is a library answer_*.
-use cases::answer;
 use cases::case;
 use cases::input;
 use cases::input::Case;
 
-// The answer to one case, at the front of out.
+// The answer to one case, at the front of out. What is no call of docs/CASES.md is none of the simple ones either, and answered so.
 fn answer_to(call: u8, body: &[u8], out: &mut [u8]) -> usize {
     match call {
-        1..=9 | 20..=34 => answer_simple::answer(call, body, out),
-        10..=15 => answer_description::answer(call, body, out),
         16 => answer_frame::answer(call, body, out),
         17 => answer_cut::answer(call, body, out),
         35..=37 => answer_stream::answer(call, body, out),
-        40..=42 | 45 => answer_mdi::answer(call, body, out),
-        43 | 44 => answer_fac::answer(call, body, out),
-        _ => answer::none(out),
+        40 | 41 => answer_mdi::answer(call, body, out),
+        42 | 45 => answer_mdi_write::answer(call, body, out),
+        _ => answer_simple::answer(call, body, out),
     }
 }
 
@@ -47,8 +44,13 @@ fn answer_all(body: &mut [u8], out: &mut [u8]) {
     }
 }
 
+// Arrays, and not slices, are handed on here: a proof need not count their bytes.
+fn answer_in(body: &mut [u8; 524288], out: &mut [u8; 4096]) {
+    answer_all(body, out);
+}
+
 fn main() {
     let mut body = [0u8; case::BODY];
     let mut out = [0u8; case::ANSWER];
-    answer_all(&mut body, &mut out);
+    answer_in(&mut body, &mut out);
 }
