@@ -4,27 +4,21 @@ use borrow.Author.Needs.{needs}
 use Rattle.answer_clock.proofs.stamp_at.Statement.{statement}
 use Rattle.answer_clock.proofs.stamp_at.Tie as tie
 
--- src/lib.rt:90:15
 read16-requires : tie.Need-read16-requires
 read16-requires c κs = search needs
 
--- src/lib.rt:91:39
 past-requires : tie.Need-past-requires
 past-requires c κs = search needs
 
--- src/lib.rt:91:18
 read64-requires : tie.Need-read64-requires
 read64-requires c κs = search needs
 
--- src/lib.rt:92:44
 past-requires-2 : tie.Need-past-requires-2
 past-requires-2 c κs = search needs
 
--- src/lib.rt:92:23
 read16-requires-2 : tie.Need-read16-requires-2
 read16-requires-2 c κs = search needs
 
--- src/lib.rt:86:1
 returns : tie.Need-returns
 returns c = search stamp-is
 

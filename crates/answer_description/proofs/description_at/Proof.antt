@@ -4,63 +4,48 @@ use borrow.Author.Needs.{needs}
 use Rattle.answer_description.proofs.description_at.Statement.{statement}
 use Rattle.answer_description.proofs.description_at.Tie as tie
 
--- src/lib.rt:47:31
 past-requires : tie.Need-past-requires
 past-requires c κs = search needs
 
--- src/lib.rt:47:9
 lengths-at-requires : tie.Need-lengths-at-requires
 lengths-at-requires c κs = search needs
 
--- src/lib.rt:48:31
 past-requires-2 : tie.Need-past-requires-2
 past-requires-2 c κs = search needs
 
--- src/lib.rt:48:9
 lengths-at-requires-2 : tie.Need-lengths-at-requires-2
 lengths-at-requires-2 c κs = search needs
 
--- src/lib.rt:49:31
 past-requires-3 : tie.Need-past-requires-3
 past-requires-3 c κs = search needs
 
--- src/lib.rt:49:9
 lengths-at-requires-3 : tie.Need-lengths-at-requires-3
 lengths-at-requires-3 c κs = search needs
 
--- src/lib.rt:50:31
 past-requires-4 : tie.Need-past-requires-4
 past-requires-4 c κs = search needs
 
--- src/lib.rt:50:9
 lengths-at-requires-4 : tie.Need-lengths-at-requires-4
 lengths-at-requires-4 c κs = search needs
 
--- src/lib.rt:53:12
 byte-requires : tie.Need-byte-requires
 byte-requires c κs = search needs
 
--- src/lib.rt:54:29
 past-requires-5 : tie.Need-past-requires-5
 past-requires-5 c κs = search needs
 
--- src/lib.rt:54:12
 byte-requires-2 : tie.Need-byte-requires-2
 byte-requires-2 c κs = search needs
 
--- src/lib.rt:58:33
 past-requires-6 : tie.Need-past-requires-6
 past-requires-6 c κs = search needs
 
--- src/lib.rt:58:16
 byte-requires-3 : tie.Need-byte-requires-3
 byte-requires-3 c κs = search needs
 
--- src/lib.rt:58:16
 cast-t12 : tie.Need-cast-t12
 cast-t12 c = search needs
 
--- src/lib.rt:44:1
 returns : tie.Need-returns
 returns c = search description-is
 

@@ -4,19 +4,15 @@ use borrow.Author.Needs.{needs}
 use Rattle.answer_description.proofs.lengths_at.Statement.{statement}
 use Rattle.answer_description.proofs.lengths_at.Tie as tie
 
--- src/lib.rt:38:12
 read16-requires : tie.Need-read16-requires
 read16-requires c κs = search needs
 
--- src/lib.rt:39:33
 past-requires : tie.Need-past-requires
 past-requires c κs = search needs
 
--- src/lib.rt:39:12
 read16-requires-2 : tie.Need-read16-requires-2
 read16-requires-2 c κs = search needs
 
--- src/lib.rt:34:1
 returns : tie.Need-returns
 returns c = search lengths-are
 

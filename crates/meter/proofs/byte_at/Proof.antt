@@ -6,15 +6,12 @@ use Rattle.meter.proofs.byte_at.Tie as tie
 use Rattle.meter.proofs.byte_at.Reads as reads
 use Rattle.meter.proofs.byte_at.Lts as lts
 
--- src/lib.rt:56:9
 returns : tie.Need-returns
 returns c = search (getD-out, needs)
 
--- src/lib.rt:58:5
 shared-slice-read-result : tie.Need-shared-slice-read-result
 shared-slice-read-result c = search needs
 
--- src/lib.rt:52:1
 returns-2 : tie.Need-returns-2
 returns-2 c = search needs
 

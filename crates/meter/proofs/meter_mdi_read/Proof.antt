@@ -8,15 +8,12 @@ use Rattle.meter.proofs.meter_mdi_read.Lts as lts
 use Rattle.mdi.proofs.read.Reads as read-reads
 use Rattle.meter.proofs.byte_at.Reads as byte-at-reads
 
--- src/lib.rt:65:13
 read-requires : tie.Need-read-requires
 read-requires c κs = search needs
 
--- src/lib.rt:71:15
 byte-at-requires : tie.Need-byte-at-requires
 byte-at-requires c κs = search needs
 
--- src/lib.rt:61:1
 returns : tie.Need-returns
 returns c = search (seen-is, needs)
 

@@ -10,23 +10,18 @@ use Rattle.description.proofs.of_value.Reads as of-value-reads
 use Rattle.fac.proofs.of_value.Reads as of-value-reads′
 use Rattle.sdc.proofs.of_value.Reads as of-value-reads′′
 
--- src/lib.rt:79:9
 of-value-requires : tie.Need-of-value-requires
 of-value-requires c κs = search needs
 
--- src/lib.rt:80:9
 of-value-requires-2 : tie.Need-of-value-requires-2
 of-value-requires-2 c κs = search needs
 
--- src/lib.rt:81:9
 of-value-requires-3 : tie.Need-of-value-requires-3
 of-value-requires-3 c κs = search needs
 
--- src/lib.rt:82:9
 decode-requires : tie.Need-decode-requires
 decode-requires c κs = search needs
 
--- src/lib.rt:76:1
 returns : tie.Need-returns
 returns c = search (made-is, needs)
 

@@ -4,35 +4,28 @@ use borrow.Author.Needs.{needs}
 use Rattle.moves.proofs.put.Statement.{statement}
 use Rattle.moves.proofs.put.Tie as tie
 
--- src/lib.rt:13:9
 returns : tie.Need-returns
 returns c =
     let a = c .before .before .before .args in
     too-long (a .src .now) (a .dst .now) (a .at) (c .if1 .taken)
 
--- src/lib.rt:15:8
 sub-if2 : tie.Need-sub-if2
 sub-if2 c = search needs
 
--- src/lib.rt:16:9
 returns-2 : tie.Need-returns-2
 returns-2 c =
     let a = c .before .before .before .before .args in
     too-far (a .src .now) (a .dst .now) (a .at) (c .before .if1 .left) (c .if2 .taken)
 
--- src/lib.rt:18:5
 copy-requires : tie.Need-copy-requires
 copy-requires c κs = search needs
 
--- src/lib.rt:19:5
 add-result : tie.Need-add-result
 add-result c = search needs
 
--- src/lib.rt:7:1
 same-length : tie.Need-same-length
 same-length c = search needs
 
--- src/lib.rt:7:1
 returns-3 : tie.Need-returns-3
 returns-3 c =
     let k = c .before .before in

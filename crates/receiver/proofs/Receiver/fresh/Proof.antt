@@ -6,7 +6,6 @@ use Rattle.receiver.proofs.Receiver.fresh.Tie as tie
 use Rattle.receiver.proofs.Receiver.fresh.Reads as reads
 use Rattle.receiver.proofs.Receiver.fresh.Lts as lts
 
--- src/lib.rt:35:5
 returns : tie.Need-returns
 unfolding fresh
 returns c = refl
