@@ -8,36 +8,43 @@ room=$(mktemp -d) || exit 2
 trap 'rm -rf "$room"' EXIT
 passed=0 failed=0
 
-# compare NAME FIRST LAST: leaves the report in $room/report, whose last line has the counts
+# compare ROOM NAME FIRST LAST: the report, whose last line has the counts; ROOM is for its files
 compare() {
-    echo "0 passed, 1 failed" >"$room/report"
-    if [ ! -x "$ROOT/target/bin/$1" ]; then
-        echo "fresh: target/bin/$1 is not there: it is not proved"
+    mkdir -p "$1"
+    if [ ! -x "$ROOT/target/bin/$2" ]; then
+        echo "fresh: target/bin/$2 is not there: it is not proved"
+    elif ! "$REFERENCE" generate "$seed" "$count" "$3" "$4" >"$1/cases"; then
+        echo "fresh: the cases $3 to $4 of $2 could not be made"
+    elif ! run_program "$2" <"$1/cases" >"$1/answers"; then
+        echo "fresh: $2 did not end well"
+    else
+        "$REFERENCE" compare "$1/cases" "$1/answers"
         return
     fi
-    "$REFERENCE" generate "$seed" "$count" "$2" "$3" >"$room/cases" || {
-        echo "fresh: the cases of $1 could not be made"
-        return
-    }
-    run_program "$1" <"$room/cases" >"$room/answers" || {
-        echo "fresh: $1 ended with status $?"
-        return
-    }
-    "$REFERENCE" compare "$room/cases" "$room/answers" >"$room/report"
-    sed '$d' "$room/report"
+    echo "0 passed, 1 failed"
 }
 
 count=$1 seed=$2
 if build_reference; then
+    # the lines side by side, since an answering program runs on one core; their reports in order
+    lines=0
     while read -r name first last; do
         case $name in '' | '#'*) continue ;; esac
-        echo "-- $name"
-        compare "$name" "$first" "$last"
-        line=$(tail -n 1 "$room/report")
+        lines=$((lines + 1))
+        compare "$room/$lines" "$name" "$first" "$last" >"$room/report$lines" 2>&1 &
+        echo "$name, calls $first to $last" >"$room/title$lines"
+    done <"$ROOT/scripts/programs.txt"
+    wait
+    n=0
+    while [ "$n" -lt "$lines" ]; do
+        n=$((n + 1))
+        echo "-- $(cat "$room/title$n")"
+        sed '$d' "$room/report$n"
+        line=$(tail -n 1 "$room/report$n")
         passed=$((passed + ${line%% *}))
         line=${line#* passed, }
         failed=$((failed + ${line%% *}))
-    done <"$ROOT/scripts/programs.txt"
+    done
 else
     failed=1
 fi
