@@ -1,7 +1,6 @@
 // Calls of docs/CASES.md that are handed at most one buffer to read and one to write to. What stands in a case is read by the form of its
 // call, and a function of one of the libraries below says what came back. A new call is such a function, its form, and a line of `say`.
 use cases::case;
-use cases::case::Taken;
 use saying::Said;
 
 // Bytes before the first buffer and between the two; and which buffers there are: one to read, one that is lent to write to.
@@ -104,24 +103,12 @@ fn say(call: u8, body: &[u8], between: usize, s: &[u8], dst: &mut [u8]) -> Said 
     }
 }
 
-// The buffer at a position of the body, where there is one.
-fn taken(has: bool, body: &[u8], at: usize, into: &mut [u8]) -> Taken {
-    if has {
-        return case::buffer(body, at, into);
-    }
-    Taken {
-        whole: true,
-        len: 0,
-        next: at,
-    }
-}
-
 fn plain(call: u8, body: &[u8], out: &mut [u8]) -> usize {
     let mut one = [0u8; case::BUFFER];
     let mut two = [0u8; case::BUFFER];
     let f = form_of(call);
-    let s = taken(f.reads, body, f.head, &mut one);
-    let t = taken(f.lends, body, case::past(s.next, f.gap), &mut two);
+    let s = case::buffer_if(f.reads, body, f.head, &mut one, 0);
+    let t = case::buffer_if(f.lends, body, case::past(s.next, f.gap), &mut two, 0);
     let dst = case::front_mut(&mut two, t.len);
     let said = say(call, body, s.next, case::front(&one, s.len), dst);
     let said = saying::only_if(said, s.whole & case::ends(t, body));

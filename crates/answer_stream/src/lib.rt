@@ -1,7 +1,6 @@
 // Calls 35 to 37 of docs/CASES.md: scripts of steps over a sender and a receiver, each step handed what the last one left. Nothing here
 // decides an answer.
 use cases::case;
-use cases::case::Taken;
 use saying::Said;
 
 // The most steps of a script.
@@ -34,18 +33,6 @@ fn script(call: u8, body: &[u8], at: usize, whole: bool, one: &mut [u8], two: &m
     stream_values::told(r, call, r.at == body.len())
 }
 
-// The buffer at a position of the body; where the call is handed none, so many bytes as they are.
-fn taken(has: bool, body: &[u8], at: usize, into: &mut [u8], len: usize) -> Taken {
-    if has {
-        return case::buffer(body, at, into);
-    }
-    Taken {
-        whole: true,
-        len,
-        next: at,
-    }
-}
-
 // Bytes before the first buffer, or before the number of steps.
 fn head(call: u8) -> usize {
     match call {
@@ -59,8 +46,8 @@ fn head(call: u8) -> usize {
 pub fn answer(call: u8, body: &[u8], out: &mut [u8]) -> usize {
     let mut room = [0u8; case::BUFFER];
     let mut more = [0u8; case::BUFFER];
-    let s = taken(call != 37, body, head(call), &mut room, 12288);
-    let t = taken(call == 35, body, s.next, &mut more, 16384);
+    let s = case::buffer_if(call != 37, body, head(call), &mut room, 12288);
+    let t = case::buffer_if(call == 35, body, s.next, &mut more, 16384);
     let one = case::front_mut(&mut room, s.len);
     let two = case::front_mut(&mut more, t.len);
     let said = script(call, body, t.next, s.whole & t.whole, one, two);

@@ -2,7 +2,6 @@
 // same cases from the documents alone, and the two are compared. Nothing here decides an answer: each group of calls is a library answer_*.
 use cases::case;
 use cases::input;
-use cases::input::Case;
 
 // The answer to one case, at the front of out. What is no call of docs/CASES.md is none of the simple ones either, and answered so.
 fn answer_to(call: u8, body: &[u8], out: &mut [u8]) -> usize {
@@ -16,41 +15,27 @@ fn answer_to(call: u8, body: &[u8], out: &mut [u8]) -> usize {
     }
 }
 
-// The call of a case; 0, which is none, where the case is cut off.
-fn called(next: Case) -> u8 {
-    if next.whole { next.call } else { 0 }
-}
-
-// False where no further case can be read.
-fn write(next: Case, answer: &[u8]) -> bool {
-    io::write_all(1, answer) & next.whole
-}
-
-// Reads a case and writes its answer.
+// Reads a case and writes its answer. False where no further case can be read.
 fn answer_next(body: &mut [u8], out: &mut [u8]) -> bool {
     let next = input::next(body);
     if next.ended {
         return false;
     }
-    let n = answer_to(called(next), case::front(body, next.size), out);
-    write(next, case::front(out, n))
+    let n = answer_to(next.call, case::front(body, next.size), out);
+    io::write_all(1, case::front(out, n)) & next.whole
 }
 
 // A proved loop has to end, and nothing says that the input does. So the loop counts its turns down, from a number that no run uses up.
-fn answer_all(body: &mut [u8], out: &mut [u8]) {
+// It takes arrays, and not slices: a proof need not count their bytes.
+fn answer_all(body: &mut [u8; 524288], out: &mut [u8; 4096]) {
     let mut turns = u64::MAX;
     while turns > 0 && answer_next(body, out) {
         turns -= 1;
     }
 }
 
-// Arrays, and not slices, are handed on here: a proof need not count their bytes.
-fn answer_in(body: &mut [u8; 524288], out: &mut [u8; 4096]) {
-    answer_all(body, out);
-}
-
 fn main() {
     let mut body = [0u8; case::BODY];
     let mut out = [0u8; case::ANSWER];
-    answer_in(&mut body, &mut out);
+    answer_all(&mut body, &mut out);
 }

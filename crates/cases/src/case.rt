@@ -125,6 +125,23 @@ pub fn buffer(body: &[u8], at: usize, into: &mut [u8]) -> Taken
     }
 }
 
+// The buffer at a position of the body, where the call is handed one; else the first len bytes of the slice, as they are.
+pub fn buffer_if(has: bool, body: &[u8], at: usize, into: &mut [u8], len: usize) -> Taken
+    ensures { λ r. ⌜ r .len ≤ length (now (into .exit)) ⌝ }
+{
+    if has {
+        return buffer(body, at, into);
+    }
+    if into.len() < len {
+        return none(body);
+    }
+    Taken {
+        whole: true,
+        len,
+        next: at,
+    }
+}
+
 // The buffer stands whole in the body, and is the last thing in it.
 pub fn ends(t: Taken, body: &[u8]) -> bool
     ensures { λ r. ⌜ r ≡ (t .whole && eqb (t .next) (length (now (body .entry)))) ⌝ }

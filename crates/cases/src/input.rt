@@ -5,7 +5,7 @@ ghost use lib.ListN.{length};
 use crate::case;
 
 // What was read: nothing, where the input has ended; a whole case, whose body stands at the front of the slice; or one that is cut off or
-// too large, after which nothing more can be read.
+// too large, with call 0, which is none, after which nothing more can be read.
 pub struct Case {
     pub ended: bool,
     pub whole: bool,
@@ -49,10 +49,12 @@ pub fn next(body: &mut [u8]) -> Case
     if body.len() < size {
         return cut();
     }
-    let whole = fill(&mut body[0..size]);
+    if !fill(&mut body[0..size]) {
+        return cut();
+    }
     Case {
         ended: false,
-        whole,
+        whole: true,
         call: head[0],
         size,
     }
