@@ -1,6 +1,6 @@
 #!/bin/sh
 # demo.sh [NAME=NUMBER ..]: the main job. First the worked example of ES 201 980, annex C: its description cuts a frame of 1,200 bytes.
-# Then the night with two two-o'clocks; arguments go to the program night (a wrong one makes it list them).
+# Then the night with two two-o'clocks; arguments are what is other than in the usual night (a wrong one makes it list the names).
 # The two programs and what they stand on are proved first, where they are not yet; meanwhile it shows how far that is.
 set -eu
 ROOT=$(cd "$(dirname "$0")/.." && pwd -P)
@@ -8,6 +8,11 @@ cd "$ROOT"
 . "$ROOT/scripts/kit.sh"
 . "$ROOT/scripts/progress.sh"
 programs='layout night'
+# the numbers of the night; a wrong wish ends the run before anything is proved
+numbers=$(WISHES="$*" awk -f scripts/night.awk crates/night/args) || {
+    echo "$numbers" >&2
+    exit 2
+}
 log=target/demo.log
 mkdir -p target
 rm -f target/demo.status
@@ -46,9 +51,9 @@ began=$(date +%s) seen=0
 display=$!
 trap 'kill "$display" 2>/dev/null; exit 130' INT TERM
 status=0
-# four crates stand side by side in two of the levels here, so that one job more saves a batch in each
+# up to five crates stand side by side in a level here: two jobs more make one batch of each
 # shellcheck disable=SC2086
-RT_JOBS=${RT_JOBS:-$(($(jobs_for_cores) + 1))} rt check $programs >"$log" 2>&1 || status=$?
+RT_JOBS=${RT_JOBS:-$(($(jobs_for_cores) + 2))} rt check $programs >"$log" 2>&1 || status=$?
 echo "$status" >target/demo.status
 wait "$display"
 [ ! -t 1 ] || printf '\r\033[K'
@@ -61,4 +66,5 @@ echo
 # capacity 04 B0, then the sdci value: two protection levels, and the part A and part B lengths of three streams
 printf '\004\260\001\000\004\121\003\260\000\001\060\000' | run_program layout
 echo
-run_program night "$@"
+# shellcheck disable=SC2086
+run_program night $numbers

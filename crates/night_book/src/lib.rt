@@ -4,11 +4,10 @@ mod table;
 
 use hand::Three;
 use night_plan::SLOTS;
-use night_text::list;
+use night_plan::list;
 pub use table::end;
 pub use table::head;
-pub use table::is_line_due;
-pub use table::start;
+pub use table::refuse;
 
 // the frame that is made, counted from 1
 pub const FRAME: usize = 14;
@@ -61,8 +60,19 @@ pub fn count(book: [usize; SLOTS], packets: Three, filler: usize) -> [usize; SLO
     count_one(book, 3, filler)
 }
 
-// The line of the table, with the packets that wait in each queue; the sums begin anew.
-pub fn show(book: [usize; SLOTS], a: usize, b: usize, c: usize) -> [usize; SLOTS] {
+// The next frame: its number, and the job's start.
+pub fn begin(book: [usize; SLOTS]) -> [usize; SLOTS] {
+    let mut b = book;
+    b[FRAME] = list::plus(b[FRAME], 1);
+    table::start(b);
+    b
+}
+
+// The line of the table, where one is due after a frame, with the packets that wait in each queue; the sums begin anew.
+pub fn end_frame(book: [usize; SLOTS], a: usize, b: usize, c: usize) -> [usize; SLOTS] {
+    if !table::is_line_due(book) {
+        return book;
+    }
     let mut next = book;
     next[WAITING] = a;
     next[WAITING + 1] = b;

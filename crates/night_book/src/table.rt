@@ -1,6 +1,7 @@
-// The table that is printed: a line for some frames together, and the lines at the end. night_text::say tells what the marks mean.
+// The table that is printed: a line for some frames together, and the lines at the end. text::say tells what the marks mean.
 use night_plan::SLOTS;
-use night_text::list;
+use night_plan::list;
+use night_plan::text;
 
 // The lines of a night, about.
 const LINES: usize = 20;
@@ -33,16 +34,16 @@ fn stamp(book: [usize; SLOTS]) {
     let h = hours(frame, hour) % 4 * 10;
     let m = minute(frame, hour);
     let text = b"\x05   1:\x01\x01  \x05  2A:\x01\x01  \x05  2B:\x01\x01  \x05   3:\x01\x01  ";
-    night_text::say(list::between(text, h, h + 10), &[n, m / 10, m % 10], 0);
+    text::say(list::between(text, h, h + 10), &[n, m / 10, m % 10], 0);
 }
 
 fn told(book: [usize; SLOTS], text: &[u8]) {
     stamp(book);
-    night_text::say(text, &book, night_plan::FILES);
+    text::say(text, &book, night_plan::FILES);
 }
 
 // The job's start, where it is two o'clock by the wall clock.
-pub fn start(book: [usize; SLOTS]) {
+pub(crate) fn start(book: [usize; SLOTS]) {
     let frame = book[crate::FRAME];
     let hour = night_plan::hour(book);
     if frame == list::plus(hour, 1) {
@@ -59,10 +60,10 @@ pub fn start(book: [usize; SLOTS]) {
 // How long a page waited, and how long it may: a share of 0 promises nothing.
 fn wait(n: usize, bound: usize) {
     if bound == 0 {
-        night_text::say(b"\x01 frame\x00, nothing promised (share 0)\n", &[n, n], 0);
+        text::say(b"\x01 frame\x00, nothing promised (share 0)\n", &[n, n], 0);
         return;
     }
-    night_text::say(
+    text::say(
         b"\x01 frame\x00, promised at most \x01\n",
         &[n, n, bound],
         0,
@@ -72,7 +73,7 @@ fn wait(n: usize, bound: usize) {
 // A news page is delivered.
 pub(crate) fn page(book: [usize; SLOTS], k: usize, n: usize, bound: usize) {
     stamp(book);
-    night_text::say(b"news page \x01 delivered: waited ", &[k], 0);
+    text::say(b"news page \x01 delivered: waited ", &[k], 0);
     wait(n, bound);
 }
 
@@ -82,7 +83,7 @@ pub(crate) fn grain(n: usize) -> usize {
 }
 
 // A line is due after this frame.
-pub fn is_line_due(book: [usize; SLOTS]) -> bool {
+pub(crate) fn is_line_due(book: [usize; SLOTS]) -> bool {
     let step = list::over(book[night_plan::FRAMES], LINES);
     if step == 0 {
         return false;
@@ -92,15 +93,35 @@ pub fn is_line_due(book: [usize; SLOTS]) -> bool {
 
 pub(crate) fn line(book: [usize; SLOTS]) {
     stamp(book);
-    night_text::say(
+    text::say(
         b"\x06\x06\x06\x06  \x05\x05\x05   \xb0\xb1\xb2\xae\n",
         &book,
         crate::SUM,
     );
 }
 
+// Why a night cannot be run: the number that the sender gives its settings or its units. 0 says nothing.
+pub fn refuse(number: usize) {
+    if number == 13 {
+        text::write(
+            b"night: the settings are refused (13). Their limits: p from 1 to 255; n from 1,
+with n(p+3) at most 8190; each share at most its ceiling; each ceiling from 1
+to n; the three shares together at most n.
+",
+        );
+        return;
+    }
+    if number != 0 {
+        text::say(
+            b"night: a unit is refused (\x01). It has from 1 to 4096 bytes: news, map, station.\n",
+            &[number],
+            0,
+        );
+    }
+}
+
 pub fn head(book: [usize; SLOTS]) {
-    night_text::say(
+    text::say(
         b"The Sunday with two two-o'clocks. Three queues share one stream of packets:
 0 news pages, 1 map files, 2 station data; a dot is filler. The job that loads
 the \x01 map files starts at two o'clock, and so it starts twice.
@@ -110,13 +131,13 @@ the \x01 map files starts at two o'clock, and so it starts twice.
     );
     let g = grain(book[night_plan::N]);
     if 1 < g {
-        night_text::say(
+        text::say(
             b"A character of the bar stands for up to \x01 packets.\n",
             &[g],
             0,
         );
     }
-    night_text::write(
+    text::write(
         b"
                  packets sent of queue  packets waiting   the last frame,
 frame  time        0     1     2  fill      0    1    2   packet by packet
@@ -127,11 +148,11 @@ frame  time        0     1     2  fill      0    1    2   packet by packet
 // The line of the news pages.
 fn pages(book: [usize; SLOTS]) {
     if book[crate::DELIVERED] == 0 {
-        night_text::write(b"news pages: none delivered\n");
+        text::write(b"news pages: none delivered\n");
         return;
     }
-    night_text::say(b"news pages: \x01 delivered, ", &book, crate::DELIVERED);
-    night_text::say(b"\x01 late, longest wait ", &book, crate::LATE);
+    text::say(b"news pages: \x01 delivered, ", &book, crate::DELIVERED);
+    text::say(b"\x01 late, longest wait ", &book, crate::LATE);
     wait(book[crate::LONGEST], book[crate::PROMISE]);
 }
 
@@ -139,14 +160,14 @@ pub fn end(book: [usize; SLOTS]) {
     let loaded = book[crate::LOADED + 1];
     let came = night_plan::came(book, night_plan::MAPS, book[crate::FRAME]);
     let left = std::num::wrapping_sub_usize(came, loaded);
-    night_text::say(
+    text::say(
         b"
 map files: \x01 delivered, \x01 loaded, \x01 still to load
 ",
         &[book[crate::DELIVERED + 1], loaded, left],
         0,
     );
-    night_text::say(
+    text::say(
         b"units refused for want of room (15) and offered again: \x01
 units that came back changed: \x01
 ",

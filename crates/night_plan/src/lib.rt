@@ -1,10 +1,11 @@
 // What the night is: the settings of the stream, the units and when they are due. The night is a list of numbers; the first of them are
-// the plan, in the order in which the arguments are listed, and the rest is what the program counts. Constants name the places.
+// the plan, in the order of the program's arguments, and the rest is what it counts. Constants name the places.
+pub mod list;
+pub mod text;
 mod wish;
 
 use hand::Settings;
 use hand::Three;
-use night_text::list;
 pub use wish::arguments;
 
 pub const P: usize = 0;
@@ -39,18 +40,6 @@ pub const NEWS: usize = 0;
 pub const MAPS: usize = 1;
 
 pub const STATIONS: usize = 2;
-
-const USUAL: [usize; NUMBERS] = [97, 12, 4, 5, 1, 10, 12, 3, 1800, 1300, 150, 5, 16, 80];
-
-// The usual night.
-pub fn usual(v: &mut [usize]) {
-    let usual = USUAL;
-    let mut i: usize = 0;
-    while i < NUMBERS {
-        list::put(v, i, usual[i]);
-        i += 1;
-    }
-}
 
 pub fn settings(v: [usize; SLOTS]) -> Settings {
     let share = Three {

@@ -1,17 +1,12 @@
 // The sending side of the night: what is due is loaded, the sender makes a frame, and the table gets its lines.
-mod fit;
-
-pub use fit::is_fit;
+use crate::fit;
 use night_plan::SLOTS;
-use night_text::list;
-use receiver::Receiver;
 use sender::Sender;
 
-// Sender, receiver and numbers, by value, since the prover pays more for each list of numbers that is lent on and on.
-pub struct Night {
-    pub s: Sender,
-    pub r: Receiver,
-    pub book: [usize; SLOTS],
+// Sender and numbers, by value: the prover pays more for what is lent on and on.
+pub(crate) struct Sent {
+    pub(crate) s: Sender,
+    pub(crate) book: [usize; SLOTS],
 }
 
 // The packets that wait in a queue.
@@ -30,21 +25,20 @@ fn is_due(book: [usize; SLOTS], id: usize) -> bool {
 }
 
 // The next unit of a queue, where one is due. Where there is no room (15) nothing is changed, and it is tried again before the next frame.
-fn load(n: Night, id: usize, store: &mut [u8]) -> Night {
+fn load(n: Sent, id: usize, store: &mut [u8]) -> Sent {
     let book = n.book;
     if !is_due(book, id) {
         return n;
     }
     let done = fit::offer(book, n.s, id, store);
     let s = done.next;
-    let r = n.r;
     let waiting = waiting(s, id, book[night_plan::P]);
     let book = night_book::note(book, id, done.number, waiting);
-    Night { s, r, book }
+    Sent { s, book }
 }
 
 // What is due in each queue, until a unit finds no room: no more than eight are ever unfinished, so that the ninth of a queue finds none.
-fn load_all(n: Night, store: &mut [u8]) -> Night {
+fn load_all(n: Sent, store: &mut [u8]) -> Sent {
     let mut next = n;
     let mut turn: usize = 0;
     while turn < 27 {
@@ -54,37 +48,23 @@ fn load_all(n: Night, store: &mut [u8]) -> Night {
     next
 }
 
-// The next frame: its number, and the job's start.
-fn begin(n: Night) -> Night {
-    let s = n.s;
-    let r = n.r;
-    let mut book = n.book;
-    book[night_book::FRAME] = list::plus(book[night_book::FRAME], 1);
-    night_book::start(book);
-    Night { s, r, book }
-}
-
 // What is due is loaded, and the frame written.
-pub fn send(n: Night, store: &mut [u8], out: &mut [u8]) -> Night {
-    let n = load_all(begin(n), store);
+pub(crate) fn send(n: Sent, store: &mut [u8], out: &mut [u8]) -> Sent {
     let s = n.s;
-    let r = n.r;
+    let book = n.book;
+    let book = night_book::begin(book);
+    let n = load_all(Sent { s, book }, store);
+    let s = n.s;
     let book = n.book;
     let done = s.frame(night_plan::settings(book), store, out);
     let book = night_book::count(book, done.packets, done.filler);
     let s = done.next;
-    Night { s, r, book }
+    Sent { s, book }
 }
 
-// A line of the table, where one is due after a frame.
-pub fn end(n: Night) -> Night {
-    let s = n.s;
-    let r = n.r;
-    let book = n.book;
-    if !night_book::is_line_due(book) {
-        return n;
-    }
+// The end of a frame, with the packets that wait now.
+pub(crate) fn end(s: Sender, book: [usize; SLOTS]) -> Sent {
     let p = book[night_plan::P];
-    let book = night_book::show(book, waiting(s, 0, p), waiting(s, 1, p), waiting(s, 2, p));
-    Night { s, r, book }
+    let book = night_book::end_frame(book, waiting(s, 0, p), waiting(s, 1, p), waiting(s, 2, p));
+    Sent { s, book }
 }

@@ -1,6 +1,6 @@
 // Units offered to the sender, and whether the night can be run.
 use night_plan::SLOTS;
-use night_text::list;
+use night_plan::list;
 use sender::Loaded;
 use sender::Sender;
 
@@ -35,24 +35,8 @@ fn number(book: [usize; SLOTS], store: &mut [u8]) -> u32 {
 }
 
 // The night can be run; where it cannot, a sentence says why.
-pub fn is_fit(book: [usize; SLOTS], store: &mut [u8]) -> bool {
+pub(crate) fn is_fit(book: [usize; SLOTS], store: &mut [u8]) -> bool {
     let number = number(book, store);
-    if number == 13 {
-        night_text::write(
-            b"night: the settings are refused (13). Their limits: p from 1 to 255; n from 1,
-with n(p+3) at most 8190; each share at most its ceiling; each ceiling from 1
-to n; the three shares together at most n.
-",
-        );
-        return false;
-    }
-    if number != 0 {
-        night_text::say(
-            b"night: a unit is refused (\x01). It has from 1 to 4096 bytes: news, map, station.\n",
-            &[number as usize],
-            0,
-        );
-        return false;
-    }
-    true
+    night_book::refuse(number as usize);
+    number == 0
 }

@@ -1,14 +1,8 @@
-// Numbers and bytes at places that need not be there: nothing is read or written past an end.
+// Numbers and bytes at places that need not be there: nothing is read past an end.
 
 // The number at a place; 0 past the end.
 pub fn at(s: &[usize], i: usize) -> usize {
     if i < s.len() { s[i] } else { 0 }
-}
-
-pub fn put(s: &mut [usize], i: usize, x: usize) {
-    if i < s.len() {
-        s[i] = x;
-    }
 }
 
 pub fn plus(x: usize, y: usize) -> usize {
@@ -33,18 +27,4 @@ pub fn between(s: &[u8], from: usize, to: usize) -> &[u8] {
         return &s[0..0];
     }
     &s[from..to]
-}
-
-pub fn same(a: &[u8], b: &[u8]) -> bool {
-    if a.len() != b.len() {
-        return false;
-    }
-    let mut i = 0;
-    while i < a.len() {
-        if a[i] != b[i] {
-            return false;
-        }
-        i += 1;
-    }
-    true
 }

@@ -1,6 +1,5 @@
-// What the program `night` prints: texts with numbers in them. And lists of numbers and bytes at places that need not be there.
-pub mod list;
-
+// What the program `night` prints: texts with numbers in them.
+use crate::list;
 use libc::STDOUT_FILENO;
 
 pub fn write(s: &[u8]) {

@@ -1,12 +1,14 @@
-// The night, frame by frame: the sender makes a frame, the receiver gets its packets.
+// The hearing side of the night: each packet of a frame to the receiver, and what it brought to the book.
 use night_plan::SLOTS;
-use night_send::Night;
-use night_text::list;
+use night_plan::list;
 use receiver::Answer;
 use receiver::Receiver;
-use sender::Sender;
 
-const FRAME: usize = 8190;
+// Receiver and numbers, by value: the prover pays more for what is lent on and on.
+pub struct Heard {
+    pub r: Receiver,
+    pub book: [usize; SLOTS],
+}
 
 // What a packet brought.
 fn take(book: [usize; SLOTS], answer: Answer, buffer: &[u8]) -> [usize; SLOTS] {
@@ -19,19 +21,18 @@ fn take(book: [usize; SLOTS], answer: Answer, buffer: &[u8]) -> [usize; SLOTS] {
 }
 
 // One packet to the receiver.
-fn hear(n: Night, packet: &[u8], buffer: &mut [u8]) -> Night {
-    let s = n.s;
+fn hear(n: Heard, packet: &[u8], buffer: &mut [u8]) -> Heard {
     let r = n.r;
     let book = n.book;
     let told = r.step(book[night_plan::P], buffer, packet);
     let answer = told.answer;
     let book = take(book, answer, buffer);
     let r = told.next;
-    Night { s, r, book }
+    Heard { r, book }
 }
 
 // The packets of a frame, in order.
-fn hear_all(n: Night, frame: &[u8], buffer: &mut [u8]) -> Night {
+pub fn hear_all(n: Heard, frame: &[u8], buffer: &mut [u8]) -> Heard {
     let book = n.book;
     let size = list::plus(book[night_plan::P], 3);
     let mut next = n;
@@ -44,24 +45,4 @@ fn hear_all(n: Night, frame: &[u8], buffer: &mut [u8]) -> Night {
         left -= 1;
     }
     next
-}
-
-fn frame(n: Night, store: &mut [u8], buffer: &mut [u8], out: &mut [u8]) -> Night {
-    let n = night_send::send(n, store, out);
-    night_send::end(hear_all(n, out, buffer))
-}
-
-pub(crate) fn play(book: [usize; SLOTS], store: &mut [u8], buffer: &mut [u8]) -> [usize; SLOTS] {
-    let mut out = [0u8; FRAME];
-    let mut n = Night {
-        s: Sender::fresh(),
-        r: Receiver::fresh(),
-        book,
-    };
-    let mut left = book[night_plan::FRAMES];
-    while 0 < left {
-        n = frame(n, store, buffer, &mut out);
-        left -= 1;
-    }
-    n.book
 }
