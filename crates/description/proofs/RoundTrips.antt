@@ -3,13 +3,14 @@
 use mathlib.Core.Path.{_≡_, refl, sym, ap, ap₂, _∙_}
 use mathlib.Core.Bool.{Bool, true, false, not, _||_}
 use mathlib.Core.List.{List, [], _∷_, _++_}
-use mathlib.Core.Logic.{_⊎_, inl, inr, ⊎-elim}
+use mathlib.Core.Logic.{⊎-elim}
 use Prim.Native.Nat.{ℕ, zero, suc, _+_, _*_, _/_, _%_, _≤_, _<_}
 use native.Mathlib.Omega.{arith}
 use borrow.Author.Tests.{le-ltb, ltb-false, eqb-true, not-false, eq-eqb}
 use lib.Dec.{eqb, ltb, leb, lit<, lit≤}
 use lib.ListN.{length, getD, take, drop, length-drop}
 use Rattle.laws.proofs.Big.{bytes-take}
+use Rattle.laws.proofs.Flags.{either}
 use Rattle.laws.specs.Big.{bytesOf, bigOf, Bytes}
 use Rattle.laws.specs.Limits.{longest}
 use Rattle.laws.specs.Pick.{pick}
@@ -85,10 +86,6 @@ read-write d mode out four e =
     let n : length (valueOf d) ≡ 1 + 3 * d .count = value-length d four m (s .bits) (w .behind) in
     let l : ltb longest (length (valueOf d)) ≡ false = le-ltb longest (length (valueOf d)) (omega arith) in
     rw (e, front out (valueOf d) (1 + 3 * d .count) n, l, accepts false d mode (valueSize d) (length out) four e, back false d mode (valueSize d) (length out) four e)
-
-either : (a b : Bool) → (a || b) ≡ true → (a ≡ true) ⊎ (b ≡ true)
-either true b e = inl refl
-either false b e = inr e
 
 -- a length of the table has three bytes a stream behind one byte
 shape : (m : ℕ) → valueLength m ≡ true → (m ≡ 1 + 3 * (m / 3)) × (m / 3 ≤ 4)

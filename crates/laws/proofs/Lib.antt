@@ -5,5 +5,6 @@ pub mod Join
 pub mod Refuse
 pub mod Settle
 pub mod Table
+pub mod Verdict
 pub mod Written
 pub mod Xor

@@ -42,7 +42,7 @@ unfolding timesFollow
 follow-given s t a b e h = rw e h
 
 -- a timestamp with a field too large is refused with 6, so no number of these tests is 0
-free-time : (t : Time) → refusedWith (timeTests t) ≡ 0 → Free (timeTests t)
+pub free-time : (t : Time) → refusedWith (timeTests t) ≡ 0 → Free (timeTests t)
 unfolding timeTests fieldTests
 free-time Absent e = tt
 free-time (Given a) e = free (fieldTests a) (lit< tt, (lit< tt, (lit< tt, tt))) e

@@ -1,12 +1,11 @@
 -- The count's successor wraps, and nothing follows a timestamp without a successor (01, "MDI packet", "Clock and recordings"). Assumes nothing.
 use Prim.Native.Nat.{ℕ, _+_, _%_, _^_}
-use mathlib.Core.Bool.{Bool, true, false, _&&_, true≢false}
+use mathlib.Core.Bool.{Bool, true, false, true≢false}
 use mathlib.Core.Path.{_≡_, refl, sym, ap, ap₂, _∙_}
 use borrow.Author.Tests.{eqb-true}
-use lib.Dec.{eqb}
-use Rattle.laws.specs.Pick.{pick}
 use Rattle.laws.specs.Refuse.{refusedWith}
 use Rattle.laws.proofs.Flags.{both}
+use Rattle.laws.proofs.Verdict.{yes-means}
 use Rattle.clock.specs.declared.Stamp.{Stamp}
 use Rattle.clock.specs.Next.{nextFor}
 use Rattle.clock.proofs.Successor.{none-follows}
@@ -20,14 +19,9 @@ unfolding followsFor countFollows
 zero-after-last a b ea eb n t = rw (n, ea, eb, t) refl
 
 -- a packet that follows has the next count, and its timestamp follows
-follows-only : (a b : Record) → followsFor a b .yes ≡ true → (countFollows (a .count) (b .count) ≡ true) × (timesFollow (a .time) (b .time) ≡ true)
+pub follows-only : (a b : Record) → followsFor a b .yes ≡ true → (countFollows (a .count) (b .count) ≡ true) × (timesFollow (a .time) (b .time) ≡ true)
 unfolding followsFor
-follows-only a b e = go (eqb (refusedWith (testsFor a b)) 0) e
-  where
-    go : (c : Bool) → pick c (countFollows (a .count) (b .count) && timesFollow (a .time) (b .time)) false ≡ true
-        → (countFollows (a .count) (b .count) ≡ true) × (timesFollow (a .time) (b .time) ≡ true)
-    go true f = both (countFollows (a .count) (b .count)) (timesFollow (a .time) (b .time)) f
-    go false f = absurd (true≢false (sym f))
+follows-only a b e = both _ _ (yes-means (refusedWith (testsFor a b)) _ e .1)
 
 no-other : (a b : Record) → a .count ≡ 0xffffffff → followsFor a b .yes ≡ true → b .count ≡ 0
 unfolding countFollows
