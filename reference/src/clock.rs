@@ -1,4 +1,4 @@
-//! Timestamps (document 01, "Clock and recordings" and "MDI packet": `tist`; TS 102 820, clause 5.2.2).
+//! Timestamps (document 01, "Clock and recordings" and "MDI packet": `tist`; document 02, E3; TS 102 820, clause 5.2.2).
 
 use crate::bits::Bits;
 use crate::output;
@@ -72,11 +72,18 @@ pub fn next(timestamp: &Timestamp) -> Result<Timestamp, Refusal> {
     Ok(next)
 }
 
-/// Whether the second one follows the first: nothing follows one without a successor.
+/// Whether the second one follows the first: at the time of the next one, with a UTCO that a leap second may have
+/// moved by one, either way. Nothing follows one without a successor.
 pub fn follows(first: &Timestamp, second: &Timestamp) -> Result<bool, Refusal> {
     first.check()?;
     second.check()?;
-    Ok(next(first) == Ok(*second))
+    let Ok(next) = next(first) else {
+        return Ok(false);
+    };
+    let in_time = (second.seconds, second.milliseconds) == (next.seconds, next.milliseconds);
+    let values = 1 << UTCO_BITS;
+    let ahead = (i32::from(second.utco) - i32::from(first.utco)).rem_euclid(values);
+    Ok(in_time && [0, 1, values - 1].contains(&ahead))
 }
 
 /// What of a packet matters for its place among others.
@@ -179,19 +186,55 @@ mod tests {
     #[test]
     fn following() {
         let first = stamp(3, 9, 700);
-        assert_eq!(follows(&first, &stamp(3, 10, 100)), Ok(true));
+        for second in [stamp(3, 10, 100), stamp(4, 10, 100), stamp(2, 10, 100)] {
+            assert_eq!(follows(&first, &second), Ok(true));
+        }
         for other in [
-            stamp(4, 10, 100),
+            stamp(5, 10, 100),
+            stamp(1, 10, 100),
             stamp(3, 9, 100),
             stamp(3, 10, 101),
             stamp(3, 11, 100),
+            stamp(4, 11, 100),
+            stamp(2, 10, 99),
             first,
         ] {
             assert_eq!(follows(&first, &other), Ok(false));
         }
         let last = stamp(0, LAST_SECOND, 600);
-        for second in [stamp(0, 0, 0), last, stamp(0, LAST_SECOND, 0)] {
-            assert_eq!(follows(&last, &second), Ok(false));
+        for utco in [0, 1, 16_383] {
+            for (seconds, milliseconds) in [(0, 0), (LAST_SECOND, 600), (LAST_SECOND, 0)] {
+                let second = stamp(utco, seconds, milliseconds);
+                assert_eq!(follows(&last, &second), Ok(false));
+            }
+        }
+    }
+
+    /// A leap second moves the UTCO by one, either way, and the seconds not at all.
+    #[test]
+    fn across_a_leap_second() {
+        let known = [
+            (stamp(5, 9, 600), stamp(6, 10, 0), Ok(true)),
+            (stamp(5, 9, 600), stamp(4, 10, 0), Ok(true)),
+            (stamp(5, 9, 600), stamp(7, 10, 0), Ok(false)),
+            (stamp(16_383, 9, 0), stamp(0, 9, 400), Ok(true)),
+            (stamp(0, 9, 0), stamp(16_383, 9, 400), Ok(true)),
+            (stamp(0, 9, 0), stamp(16_382, 9, 400), Ok(false)),
+            (stamp(16_382, 9, 0), stamp(0, 9, 400), Ok(false)),
+            (stamp(5, 9, 600), stamp(6, 9, 600), Ok(false)),
+            (stamp(5, 9, 600), stamp(5, 9, 1_000), refused(6)),
+            (stamp(16_383, 9, 0), stamp(16_384, 9, 400), refused(6)),
+        ];
+        for (first, second, answer) in known {
+            assert_eq!(follows(&first, &second), answer);
+        }
+        // Of all values exactly three follow each.
+        for utco in [0, 1, 2, 8_191, 16_382, 16_383] {
+            let first = stamp(utco, 9, 0);
+            let count = (0..16_384)
+                .filter(|&other| follows(&first, &stamp(other, 9, 400)) == Ok(true))
+                .count();
+            assert_eq!(count, 3);
         }
     }
 
@@ -212,7 +255,10 @@ mod tests {
                 (Some(now), Some(then), true),
                 (Some(now), Some(now), false),
                 (Some(then), Some(now), false),
-                (Some(now), Some(stamp(4, 10, 100)), false),
+                (Some(now), Some(stamp(4, 10, 100)), true),
+                (Some(now), Some(stamp(2, 10, 100)), true),
+                (Some(now), Some(stamp(5, 10, 100)), false),
+                (Some(now), Some(stamp(4, 9, 700)), false),
                 (Some(last), Some(stamp(0, 0, 0)), false),
                 (Some(last), None, true),
             ] {

@@ -1,6 +1,6 @@
 -- What the calls answer and leave, by the way taken through their tests. Assumes nothing.
 use Prim.Native.Nat.{ℕ, _+_, _<_, _≤_}
-use mathlib.Core.Bool.{false, and-true, and-false}
+use mathlib.Core.Bool.{Bool, false, _&&_, _||_}
 use mathlib.Core.Path.{_≡_, refl, sym, ap, _∙_}
 use mathlib.Core.List.{List}
 use native.Mathlib.Omega.{arith}
@@ -17,7 +17,7 @@ use Rattle.clock.specs.declared.Stamp.{Stamp}
 use Rattle.clock.specs.declared.Stamped.{Stamped}
 use Rattle.clock.specs.Stamps.{bitsOf, fieldTests, stampBytes, encodeTests, encodeNumber, encodedFor, outputFor, stampFrom, stampOf, late, decodeTests, noStamp, stamped, decodedFor}
 use Rattle.clock.specs.Next.{elapsed, later, nextTests, nextFor}
-use Rattle.clock.specs.Follows.{timeFollows, utcoFollows, stampFollows, followsTests, followsFor}
+use Rattle.clock.specs.Follows.{oneMore, timeFollows, utcoFollows, stampFollows, followsTests, followsFor}
 use Rattle.clock.proofs.Fit.{free-fields}
 use Rattle.laws.proofs.Join.{behind, before}
 
@@ -100,6 +100,11 @@ module _ (t : Stamp) where
 
 -- ---- follows
 
+pub utco-is : (a b : Stamp) (x y : ℕ) → x ≡ oneMore (a .utco) → y ≡ oneMore (b .utco)
+    → (eqb (b .utco) (a .utco) || eqb (b .utco) x || eqb (a .utco) y) ≡ utcoFollows a b
+unfolding utcoFollows
+utco-is a b x y ex ey = rw (ex, ey) refl
+
 module _ (a b : Stamp) where
   pub follows-first : (n : ℕ) → n ≡ refusedWith (fieldTests a) → (n ≡ 0 → ⊥) → record { number = n; yes = false } ≡ followsFor a b
   unfolding followsTests followsFor
@@ -116,11 +121,7 @@ module _ (a b : Stamp) where
     unfolding followsFor
     follows-second n q h = simp (second, ← q, ne-eqb n 0 h)
 
-    pub follows-utco : refusedWith (fieldTests b) ≡ 0 → (b .utco ≡ a .utco → ⊥) → record { number = 0; yes = false } ≡ followsFor a b
-    unfolding followsFor stampFollows utcoFollows
-    follows-utco q h = simp (second, q, ne-eqb _ _ h, and-false)
-
-    pub follows-time : refusedWith (fieldTests b) ≡ 0 → b .utco ≡ a .utco → (x y : ℕ) → x ≡ elapsed b → y ≡ elapsed a
-        → record { number = 0; yes = eqb x (y + 400) } ≡ followsFor a b
-    unfolding followsFor stampFollows utcoFollows timeFollows
-    follows-time q h x y ex ey = simp (second, q, eq-eqb _ _ h, and-true, ex, ey)
+    pub follows-both : refusedWith (fieldTests b) ≡ 0 → (x y : ℕ) (u : Bool) → x ≡ elapsed b → y ≡ elapsed a → u ≡ utcoFollows a b
+        → record { number = 0; yes = eqb x (y + 400) && u } ≡ followsFor a b
+    unfolding followsFor stampFollows timeFollows
+    follows-both q x y u ex ey eu = simp (second, q, ex, ey, eu)

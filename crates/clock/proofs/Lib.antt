@@ -2,6 +2,7 @@ pub mod Answers
 pub mod Back
 pub mod Examples
 pub mod Fit
+pub mod Following
 pub mod Later
 pub mod Successor
 pub mod RoundTrip

@@ -1,14 +1,14 @@
--- The next timestamp is strictly later, by exactly 400 ms; what follows a timestamp is its next one, and nothing follows one that has none.
+-- The next timestamp is strictly later, by exactly 400 ms; what follows a timestamp has the time of its next one, and nothing follows one that has none.
 -- Assumes nothing.
 use Prim.Native.Nat.{ℕ, _+_, _^_, _<_}
 use mathlib.Core.Bool.{Bool, true, false}
 use mathlib.Core.Path.{_≡_, refl, sym, ap, subst, _∙_}
 use mathlib.Core.List.{[], _∷_}
 use native.Mathlib.Omega.{arith}
-use borrow.Author.Tests.{lt-leb, leb-false, eqb-true, eq-eqb}
-use lib.Dec.{lit<, leb, eqb}
+use borrow.Author.Tests.{lt-leb, leb-false, eqb-true}
+use lib.Dec.{lit<, leb}
 use Rattle.laws.proofs.Flags.{both}
-use Rattle.laws.specs.Pick.{pick}
+use Rattle.laws.proofs.Verdict.{yes-means}
 use Rattle.laws.specs.Refuse.{test, refusedWith}
 use Rattle.laws.proofs.Refuse.{accepted}
 use Rattle.clock.specs.declared.Stamp.{Stamp}
@@ -16,6 +16,7 @@ use Rattle.clock.specs.declared.Stamped.{Stamped}
 use Rattle.clock.specs.Stamps.{Within, fieldTests, stamped}
 use Rattle.clock.specs.Next.{elapsed, later, nextTests, nextFor}
 use Rattle.clock.specs.Follows.{timeFollows, utcoFollows, stampFollows, followsTests, followsFor}
+use Rattle.clock.specs.Following.{withUtco}
 use Rattle.clock.proofs.Fit.{free-fields, within, fits}
 use Rattle.laws.proofs.Join.{behind, both-free}
 use Rattle.clock.proofs.Later.{exactly-later, same-utco, later-is}
@@ -48,14 +49,6 @@ module _ (t : Stamp) where
       let p = next-takes e in
       rw (next-is (p .0) (p .1)) (record { utco = p .0 .utco; seconds = p .1; milliseconds = omega arith })
 
--- a yes: not refused, and the test holds
-yes-means : (n : ℕ) (t : Bool) → pick (eqb n 0) t false ≡ true → (n ≡ 0) × (t ≡ true)
-yes-means n t e = go (eqb n 0) refl e
-  where
-    go : (c : Bool) → eqb n 0 ≡ c → pick c t false ≡ true → (n ≡ 0) × (t ≡ true)
-    go true q e = (eqb-true _ _ q, e)
-    go false q e = let z : _≡_ {A = ℕ} 0 1 = cc in absurd (omega arith)
-
 module _ (a b : Stamp) where
   pub follows-takes : followsFor a b .number ≡ 0 → Within a × Within b
   unfolding followsFor followsTests fieldTests
@@ -69,29 +62,24 @@ module _ (a b : Stamp) where
       let k : refusedWith (followsTests a b) ≡ 0 = behind (fieldTests a) (fieldTests b) (free-fields a (fits a v)) ∙ fits b w in
       simp k
 
-  -- what follows is the next one
-  pub follows-next : followsFor a b .yes ≡ true → nextFor a ≡ record { number = 0; stamp = b }
-  unfolding followsFor stampFollows timeFollows utcoFollows elapsed
-  follows-next e =
+  -- what a yes says
+  pub follows-says : followsFor a b .yes ≡ true → Within a × Within b × (elapsed b ≡ elapsed a + 400) × (utcoFollows a b ≡ true)
+  unfolding followsFor stampFollows timeFollows
+  follows-says e =
       let y = yes-means (refusedWith (followsTests a b)) (stampFollows a b) e in
       let w = follows-takes (y .0) in
       let f = both (timeFollows a b) (utcoFollows a b) (y .1) in
-      let m : elapsed b ≡ elapsed a + 400 = eqb-true _ _ (f .0) in
-      let u : b .utco ≡ a .utco = eqb-true _ _ (f .1) in
-      let l : b ≡ later a = ap (λ (n : ℕ). record { utco = n; seconds = b .seconds; milliseconds = b .milliseconds }) u ∙ later-is a (b .seconds) (b .milliseconds) m (w .1 .milliseconds) in
-      rw (l, next-is a (w .0) (subst (λ (s : Stamp). s .seconds < 2 ^ 40) l (w .1 .seconds)))
+      (w .0, w .1, eqb-true _ _ (f .0), f .1)
 
-  -- and the next one follows
-  pub next-follows : nextFor a ≡ record { number = 0; stamp = b } → followsFor a b ≡ record { number = 0; yes = true }
-  unfolding stampFollows timeFollows utcoFollows
-  next-follows e =
-      let z : nextFor a .number ≡ 0 = ap (λ (g : Stamped). g .number) e in
-      let s : nextFor a .stamp ≡ b = ap (λ (g : Stamped). g .stamp) e in
-      let h : elapsed b ≡ elapsed a + 400 = rw s at (next-later a z .0) in
-      let u : b .utco ≡ a .utco = rw s at (next-later a z .1) in
-      follows-is (next-takes a z .0) (subst Within s (next-within a z)) ∙ simp (eq-eqb _ _ h, eq-eqb _ _ u)
+  -- so it is the next one, but for its UTCO
+  pub follows-next : followsFor a b .yes ≡ true → nextFor a ≡ record { number = 0; stamp = withUtco b (a .utco) }
+  unfolding elapsed
+  follows-next e =
+      let f = follows-says e in
+      let l : withUtco b (a .utco) ≡ later a = later-is a (b .seconds) (b .milliseconds) (f .2) (f .1 .milliseconds) in
+      rw (l, next-is a (f .0) (subst (λ (s : Stamp). s .seconds < 2 ^ 40) l (f .1 .seconds)))
 
-  -- nothing follows a timestamp without a successor
+  -- and nothing follows a timestamp without a successor
   pub none-follows : nextFor a .number ≡ 18 → followsFor a b .yes ≡ false
   none-follows e = go (followsFor a b .yes) refl
     where

@@ -1,6 +1,6 @@
--- Which timestamp follows which (01, "Clock and recordings"). Its own rule, beside that of the next timestamp. Assumes nothing.
-use Prim.Native.Nat.{_+_}
-use mathlib.Core.Bool.{Bool, false, _&&_}
+-- Which timestamp follows which (01, "Clock and recordings", as request E3 of 02 corrects it). Its own rule, beside that of the next timestamp. Assumes nothing.
+use Prim.Native.Nat.{ℕ, _+_, _%_, _^_}
+use mathlib.Core.Bool.{Bool, false, _&&_, _||_}
 use mathlib.Core.List.{List, _++_}
 use lib.Dec.{eqb}
 use Rattle.laws.specs.Pick.{pick}
@@ -14,9 +14,13 @@ use Rattle.clock.specs.Stamps.{fieldTests}
 unfoldable pub timeFollows : Stamp → Stamp → Bool
 timeFollows a b = eqb (elapsed b) (elapsed a + 400)
 
--- and its UTCO is the same
+-- one more, modulo 16,384
+unfoldable pub oneMore : ℕ → ℕ
+oneMore u = (u + 1) % 2 ^ 14
+
+-- and its UTCO is the same, one more or one less: it changes with each leap second, while the seconds run on evenly (002, 5.2.2)
 unfoldable pub utcoFollows : Stamp → Stamp → Bool
-utcoFollows a b = eqb (b .utco) (a .utco)
+utcoFollows a b = eqb (b .utco) (a .utco) || eqb (b .utco) (oneMore (a .utco)) || eqb (a .utco) (oneMore (b .utco))
 
 unfoldable pub stampFollows : Stamp → Stamp → Bool
 stampFollows a b = timeFollows a b && utcoFollows a b

@@ -1,7 +1,6 @@
--- B9, of timestamps: to 8 bytes and back both ways, and which one is next (01, "Clock and recordings"). Of packets: crates/record/specs/Succession.antt.
--- Assumes nothing.
+-- B9, of timestamps: to 8 bytes and back both ways, and which one is next (01, "Clock and recordings"). Which follow: Following.antt; of packets:
+-- crates/record/specs/Succession.antt. Assumes nothing.
 use Prim.Native.Nat.{ℕ, _+_, _<_, _≤_}
-use mathlib.Core.Bool.{true, false}
 use mathlib.Core.Path.{_≡_}
 use mathlib.Core.List.{List}
 use lib.ListN.{length, take}
@@ -10,7 +9,6 @@ use Rattle.laws.specs.Written.{written}
 use Rattle.clock.specs.declared.Stamp.{Stamp}
 use Rattle.clock.specs.Stamps.{Within, encodedFor, outputFor, decodedFor}
 use Rattle.clock.specs.Next.{elapsed, nextFor}
-use Rattle.clock.specs.Follows.{followsFor}
 
 pub record RoundTrip : Type 0 where
   -- what is accepted for writing, into an output of any length, comes back
@@ -26,8 +24,3 @@ pub record Successor : Type 0 where
   pub strictly : (t : Stamp) → nextFor t .number ≡ 0 → elapsed t < elapsed (nextFor t .stamp)
   -- and its fields fit, so that it may be handed in again
   pub within : (t : Stamp) → nextFor t .number ≡ 0 → Within (nextFor t .stamp)
-  -- what follows a timestamp is its next one, and that one follows it
-  pub follows-only : (a b : Stamp) → followsFor a b .yes ≡ true → nextFor a ≡ record { number = 0; stamp = b }
-  pub follows : (a b : Stamp) → nextFor a ≡ record { number = 0; stamp = b } → followsFor a b ≡ record { number = 0; yes = true }
-  -- nothing follows a timestamp without a successor
-  pub none : (a b : Stamp) → nextFor a .number ≡ 18 → followsFor a b .yes ≡ false

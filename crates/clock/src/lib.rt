@@ -1,9 +1,10 @@
-// Timestamps of MDI packets (01, "Clock and recordings" and the item `tist`; 002, 5.2.2): as 8 bytes and back, the next one, and which follows which.
+// Timestamps of MDI packets (01, "Clock and recordings" and the item `tist`; 002, 5.2.2): as 8 bytes and back, the next one, and which follows
+// which (02, E3).
 use moves::Wrote;
 ghost use mathlib.Core.Path.{_≡_};
 ghost use Prim.Native.Nat.{_<_, _^_};
 ghost use Rattle.laws.specs.Refuse.{refusedWith};
-ghost use Rattle.clock.specs.Follows.{followsFor};
+ghost use Rattle.clock.specs.Follows.{oneMore, utcoFollows, followsFor};
 ghost use Rattle.clock.specs.Next.{elapsed, later, nextFor};
 ghost use Rattle.clock.specs.Stamps.{Within, bitsOf, stampFrom, fieldTests, encodedFor, outputFor, noStamp, decodedFor};
 
@@ -161,16 +162,28 @@ pub fn follows(a: Stamp, b: Stamp) -> Judged
             yes: false,
         };
     }
-    if b.utco != a.utco {
-        return Judged {
-            number: 0,
-            yes: false,
-        };
-    }
     Judged {
         number: 0,
-        yes: total(b) == total(a) + 400,
+        yes: (total(b) == total(a) + 400) & utco_follows(a, b),
     }
+}
+
+// The UTCO is the same, one more or one less: it changes with each leap second (002, 5.2.2).
+fn utco_follows(a: Stamp, b: Stamp) -> bool
+    requires { ⌜ Within a × Within b ⌝ }
+    ensures { λ r. ⌜ r ≡ utcoFollows a b ⌝ }
+{
+    let u = a.utco;
+    let v = b.utco;
+    (v == u) | (v == one_more(u)) | (u == one_more(v))
+}
+
+// One more, modulo 16,384.
+fn one_more(utco: u16) -> u16
+    requires { ⌜ utco < 2 ^ 14 ⌝ }
+    ensures { λ r. ⌜ r ≡ oneMore utco ⌝ }
+{
+    (utco + 1) % 16384
 }
 
 // Milliseconds since the seconds began to count.

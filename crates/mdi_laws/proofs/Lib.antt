@@ -10,3 +10,4 @@ pub mod Again
 pub mod NoMatter
 pub mod Accepted
 pub mod RoundTrips
+pub mod InTurn

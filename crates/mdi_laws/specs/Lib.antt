@@ -4,3 +4,4 @@ pub mod Typed
 pub mod NoMatter
 pub mod Accepted
 pub mod RoundTrips
+pub mod InTurn

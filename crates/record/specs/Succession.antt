@@ -1,5 +1,5 @@
--- Two packets follow each other if the counts do and, where both have a timestamp, the timestamps do (01, "Clock and recordings").
--- Assumes nothing.
+-- Two packets follow each other if the counts do and, where both have a timestamp, the timestamps do (01, "Clock and recordings"; which
+-- timestamps do: 02, E3). Assumes nothing.
 use Prim.Native.Nat.{ℕ, _+_, _%_, _^_}
 use mathlib.Core.Bool.{Bool, true, false, _&&_}
 use mathlib.Core.List.{List, [], _++_}
@@ -10,7 +10,8 @@ use Rattle.laws.specs.Refuse.{Test, refusedWith}
 use Rattle.clock.specs.declared.Stamp.{Stamp}
 use Rattle.clock.specs.declared.Judged.{Judged}
 use Rattle.clock.specs.Follows as stamps
-use Rattle.clock.specs.Stamps.{fieldTests}
+use Rattle.clock.specs.Following.{FrameLater}
+use Rattle.clock.specs.Stamps.{Within, fieldTests}
 use Rattle.clock.specs.Next.{nextFor}
 use Rattle.record.specs.declared.Record.{Record}
 use Rattle.record.specs.declared.Time.{Time}
@@ -41,6 +42,27 @@ unfoldable pub followsFor : Record → Record → Judged
 followsFor a b =
     let number = refusedWith (testsFor a b) in
     record { number = number; yes = pick (eqb number 0) (countFollows (a .count) (b .count) && timesFollow (a .time) (b .time)) false }
+
+-- a timestamp that is there fits
+abbrev pub Fitting : Time → Type 0
+Fitting Absent = Unit {0}
+Fitting (Given a) = Within a
+
+-- where both have one, the second is 400 ms on and its UTCO the same, one more or one less
+abbrev pub OnTime : Time → Time → Type 0
+OnTime (Given a) (Given b) = FrameLater a b
+OnTime (Given a) Absent = Unit {0}
+OnTime Absent t = Unit {0}
+
+-- which packets follow which, in numbers
+pub record Succession : Type 0 where
+  -- 6 exactly if a timestamp that is there has a field too large
+  pub refused : (a b : Record) → (Fitting (a .time) × Fitting (b .time) → ⊥) → followsFor a b ≡ record { number = 6; yes = false }
+  pub taken : (a b : Record) → Fitting (a .time) → Fitting (b .time) → followsFor a b .number ≡ 0
+  -- else yes exactly if the counts follow and so do the timestamps, where both are there
+  pub yes : (a b : Record) → Fitting (a .time) → Fitting (b .time) → b .count ≡ (a .count + 1) % 2 ^ 32 → OnTime (a .time) (b .time) → followsFor a b .yes ≡ true
+  pub yes-only : (a b : Record) → followsFor a b .yes ≡ true
+      → Fitting (a .time) × Fitting (b .time) × (b .count ≡ (a .count + 1) % 2 ^ 32) × OnTime (a .time) (b .time)
 
 -- where counts and timestamps end (01, "MDI packet": the frame after FFFFFFFF is 0; "Clock and recordings")
 pub record Ends : Type 0 where

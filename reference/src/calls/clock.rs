@@ -1,4 +1,4 @@
-//! Calls 20 to 23: timestamps written, read, moved on and compared (document 01, "Clock and recordings").
+//! Calls 20 to 23: timestamps written, read, moved on and compared (document 01, "Clock and recordings"; document 02, E3).
 
 use super::Call;
 use crate::answer::Answer;
@@ -290,6 +290,10 @@ pub fn seconds_of(first: Timestamp) -> Vec<Timestamp> {
     };
     with(|other| other.utco = other.utco.wrapping_add(1));
     with(|other| other.utco = other.utco.wrapping_sub(1));
+    with(|other| other.utco = other.utco.wrapping_add(1) % 16_384);
+    with(|other| other.utco = other.utco.wrapping_sub(1) % 16_384);
+    with(|other| other.utco = other.utco.wrapping_add(2) % 16_384);
+    with(|other| other.utco = other.utco.wrapping_sub(2) % 16_384);
     with(|other| other.seconds = other.seconds.wrapping_add(1));
     with(|other| other.seconds = other.seconds.wrapping_sub(1));
     with(|other| other.seconds &= LAST);
@@ -299,8 +303,35 @@ pub fn seconds_of(first: Timestamp) -> Vec<Timestamp> {
     list
 }
 
+/// In time, a millisecond off, a second off, and at the time of the first.
+pub const OFFS: [i64; 6] = [400, 399, 401, 1_400, -600, 0];
+
+/// UTCOs at the ends and in the middle of their range, each with each and with one that is too large; the second
+/// timestamp so many milliseconds after the first.
+pub fn leaps(offs: &[i64]) -> Vec<[Timestamp; 2]> {
+    const NEAR: [u16; 9] = [0, 1, 2, 8_191, 8_192, 16_381, 16_382, 16_383, 16_384];
+    let at = |utco: u16, time: i64| Timestamp {
+        utco,
+        seconds: (time / 1_000) as u64,
+        milliseconds: (time % 1_000) as u16,
+    };
+    let mut list = Vec::new();
+    for before in NEAR {
+        for after in NEAR {
+            for time in [9_000, 9_600] {
+                let pair = |off: &i64| [at(before, time), at(after, time + off)];
+                list.extend(offs.iter().map(pair));
+            }
+        }
+    }
+    list
+}
+
 fn fixed_pairs(_random: &mut Random) -> Vec<Vec<u8>> {
     let mut list = Vec::new();
+    for [first, second] in leaps(&OFFS) {
+        list.push(Pair { first, second });
+    }
     for utco in [0, 16_383, 16_384] {
         for seconds in [0, LAST - 1, LAST, LAST + 1] {
             for milliseconds in [0, 599, 600, 999, 1_000] {

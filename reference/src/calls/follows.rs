@@ -1,6 +1,6 @@
-//! Call 45: whether one MDI packet follows another (document 01, "Clock and recordings").
+//! Call 45: whether one MDI packet follows another (document 01, "Clock and recordings"; document 02, E3).
 
-use super::clock::{later, seconds_of, timestamp, LAST};
+use super::clock::{later, leaps, seconds_of, timestamp, LAST, OFFS};
 use super::Call;
 use crate::answer::Answer;
 use crate::clock::{self, Moment, Timestamp};
@@ -82,7 +82,7 @@ fn counts_of(first: u32) -> [u32; 6] {
 }
 
 /// Every limit of the counts, with timestamps that follow, given or absent; then the limits of the
-/// timestamps, with counts that follow.
+/// timestamps, with counts that follow; then pairs of UTCOs, where both timestamps are given and where one is not.
 fn fixed(_random: &mut Random) -> Vec<Vec<u8>> {
     let mut list = Vec::new();
     let pair = |counts: [u32; 2], given: [u8; 2], stamps: [Timestamp; 2]| {
@@ -131,6 +131,15 @@ fn fixed(_random: &mut Random) -> Vec<Vec<u8>> {
                 list.push(pair([7, 9], [1, 1], [first, later(first)]));
             }
         }
+    }
+    for stamps in leaps(&OFFS) {
+        list.push(pair([7, 8], [1, 1], stamps));
+    }
+    // Where one is absent the UTCOs may be as far apart as they like; where the counts are wrong they do not help.
+    for stamps in leaps(&OFFS[..1]) {
+        list.push(pair([7, 8], [1, 0], stamps));
+        list.push(pair([7, 8], [0, 1], stamps));
+        list.push(pair([7, 9], [1, 1], stamps));
     }
     bodies(list)
 }

@@ -1,6 +1,6 @@
 -- `clock::follows` meets its contract. Assumes nothing.
 use mathlib.Core.Path.{sym, _∙_}
-use Rattle.clock.proofs.Answers.{follows-first, follows-second, follows-utco, follows-time}
+use Rattle.clock.proofs.Answers.{follows-first, follows-second, follows-both}
 use Rattle.clock.proofs.Fit.{within}
 use borrow.Author.Needs.{needs}
 use Rattle.clock.proofs.follows.Statement.{statement}
@@ -20,31 +20,29 @@ returns-2 c =
     let d = c .before .before in
     follows-second _ _ (sym (d .before .check .ensures) ∙ d .if1 .left) _ (c .before .check2 .ensures) (c .if2 .taken)
 
-returns-3 : tie.Need-returns-3
-returns-3 c =
-    let e = c .before .before .before in
-    let d = e .before .before in
-    follows-utco _ _ (sym (d .before .check .ensures) ∙ d .if1 .left) (sym (e .before .check2 .ensures) ∙ e .if2 .left) (c .if3 .taken)
-
 total-requires : tie.Need-total-requires
-total-requires c κs =
-    let e = c .before .before .before in
-    within _ (sym (e .before .check2 .ensures) ∙ e .if2 .left)
+total-requires c κs = within _ (sym (c .before .check2 .ensures) ∙ c .if2 .left)
 
 total-requires-2 : tie.Need-total-requires-2
 total-requires-2 c κs =
-    let d = c .before .before .before .before .before .before in
+    let d = c .before .before .before in
     within _ (sym (d .before .check .ensures) ∙ d .if1 .left)
 
 add-t8 : tie.Need-add-t8
 add-t8 c = search needs
 
-returns-4 : tie.Need-returns-4
-returns-4 c =
-    let f = c .before .before in
-    let e = f .before .before .before in
+utco-follows-requires : tie.Need-utco-follows-requires
+utco-follows-requires c κs =
+    let e = c .before .before in
     let d = e .before .before in
-    follows-time _ _ (sym (d .before .check .ensures) ∙ d .if1 .left) (sym (e .before .check2 .ensures) ∙ e .if2 .left) (f .if3 .left) _ _ (c .before .total .ensures .0) (c .total2 .ensures .0)
+    (within _ (sym (d .before .check .ensures) ∙ d .if1 .left), within _ (sym (e .before .check2 .ensures) ∙ e .if2 .left))
+
+returns-3 : tie.Need-returns-3
+returns-3 c =
+    let e = c .before .before .before in
+    let d = e .before .before in
+    follows-both _ _ (sym (d .before .check .ensures) ∙ d .if1 .left) (sym (e .before .check2 .ensures) ∙ e .if2 .left) _ _ _
+    (c .before .before .total .ensures .0) (c .before .total2 .ensures .0) (c .utco-follows .ensures)
 
 pub follows-spec : {M : Type 1} → statement M
 follows-spec =
@@ -54,8 +52,8 @@ follows-spec =
     returns
     check-requires-2
     returns-2
-    returns-3
     total-requires
     total-requires-2
     add-t8
-    returns-4)
+    utco-follows-requires
+    returns-3)
