@@ -17,7 +17,7 @@ use Rattle.clock.specs.Next.{elapsed, nextFor}
 use Rattle.clock.specs.Follows.{oneMore, timeFollows, utcoFollows, stampFollows, followsTests, followsFor}
 use Rattle.clock.specs.SameUtco.{sameUtco, followedFor}
 use Rattle.clock.specs.Following.{oneLess, OneApart, FrameLater, withUtco, moreOf, lessOf, Three, Following}
-use Rattle.clock.proofs.Successor.{next-takes, next-later, next-within, follows-takes, follows-is, follows-says, follows-next, none-follows}
+use Rattle.clock.proofs.Successor.{next-takes, next-later, next-within, follows-takes, follows-is, follows-says, follows-time, none-follows}
 
 -- ---- one more and one less are each other's way back
 
@@ -131,7 +131,7 @@ module _ (a b : Stamp) where
       → (b ≡ nextFor a .stamp) ⊎ ((b ≡ moreOf (nextFor a .stamp)) ⊎ (b ≡ lessOf (nextFor a .stamp)))
   among-three e =
       let f = yes-only e in
-      let n : nextFor a .stamp ≡ withUtco b (a .utco) = ap (λ (g : Stamped). g .stamp) (follows-next a b e) in
+      let n : nextFor a .stamp ≡ withUtco b (a .utco) = ap (λ (g : Stamped). g .stamp) (follows-time a b e) in
       rw n (⊎-elim (λ g. inl (ap (withUtco b) g)) (λ g. inr (⊎-elim (λ h. inl (ap (withUtco b) h)) (λ h. inr (ap (withUtco b) h)) g)) (f .2 .utco))
 
 module _ (a : Stamp) (z : nextFor a .number ≡ 0) where

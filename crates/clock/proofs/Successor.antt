@@ -72,9 +72,9 @@ module _ (a b : Stamp) where
       (w .0, w .1, eqb-true _ _ (f .0), f .1)
 
   -- so it is the next one, but for its UTCO
-  pub follows-next : followsFor a b .yes ≡ true → nextFor a ≡ record { number = 0; stamp = withUtco b (a .utco) }
+  pub follows-time : followsFor a b .yes ≡ true → nextFor a ≡ record { number = 0; stamp = withUtco b (a .utco) }
   unfolding elapsed
-  follows-next e =
+  follows-time e =
       let f = follows-says e in
       let l : withUtco b (a .utco) ≡ later a = later-is a (b .seconds) (b .milliseconds) (f .2) (f .1 .milliseconds) in
       rw (l, next-is a (f .0) (subst (λ (s : Stamp). s .seconds < 2 ^ 40) l (f .1 .seconds)))
@@ -85,4 +85,4 @@ module _ (a b : Stamp) where
     where
       go : (y : Bool) → followsFor a b .yes ≡ y → y ≡ false
       go false q = refl
-      go true q = let z : _≡_ {A = ℕ} 0 18 = sym (ap (λ (g : Stamped). g .number) (follows-next q)) ∙ e in absurd (omega arith)
+      go true q = let z : _≡_ {A = ℕ} 0 18 = sym (ap (λ (g : Stamped). g .number) (follows-time q)) ∙ e in absurd (omega arith)

@@ -46,7 +46,8 @@ pub record Following : Type 0 where
   -- else yes exactly if the second is 400 ms on and its UTCO is the same, one more or one less
   pub yes : (a b : Stamp) → Within a → Within b → FrameLater a b → followsFor a b .yes ≡ true
   pub yes-only : (a b : Stamp) → followsFor a b .yes ≡ true → Within a × Within b × FrameLater a b
-  -- nothing that followed before E3 ceases to: the numbers were the same, and the old answer is yes exactly if the new one is yes and the UTCOs are equal
+  -- nothing that followed before E3 ceases to: the old number is the same, and the old answer is yes exactly if the new one is yes and the
+  -- UTCOs are equal
   pub number-stays : (a b : Stamp) → followedFor a b .number ≡ followsFor a b .number
   pub still-follows : (a b : Stamp) → followedFor a b .yes ≡ true → (followsFor a b .yes ≡ true) × (b .utco ≡ a .utco)
   pub followed : (a b : Stamp) → followsFor a b .yes ≡ true → b .utco ≡ a .utco → followedFor a b .yes ≡ true

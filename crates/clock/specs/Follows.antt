@@ -1,4 +1,5 @@
--- Which timestamp follows which (01, "Clock and recordings", as request E3 of 02 corrects it). Its own rule, beside that of the next timestamp. Assumes nothing.
+-- Which timestamp follows which (01, "Clock and recordings", as 02, E3 corrects it). Its own rule, beside that of the next timestamp.
+-- Assumes nothing.
 use Prim.Native.Nat.{ℕ, _+_, _%_, _^_}
 use mathlib.Core.Bool.{Bool, false, _&&_, _||_}
 use mathlib.Core.List.{List, _++_}

@@ -1,5 +1,5 @@
--- Which timestamp followed which before request E3 of 02: only one with the same UTCO (01, "Clock and recordings"). No code has this rule; it stands here so that
--- what stays is a theorem (Following.antt). Assumes nothing.
+-- Which timestamp followed which before E3 of 02: only one with the same UTCO (01, "Clock and recordings"). No code has this rule; it
+-- stands here so that what stays is a theorem (Following.antt). Assumes nothing.
 use mathlib.Core.Bool.{Bool, false, _&&_}
 use lib.Dec.{eqb}
 use Rattle.laws.specs.Pick.{pick}

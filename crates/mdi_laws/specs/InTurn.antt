@@ -1,5 +1,5 @@
--- The writer takes the UTCO it is given for each frame (02, E3): packets that were written and read back follow each other as their records do,
--- across a leap second too. Assumes nothing.
+-- The writer takes the UTCO it is given for each frame (02, E3): packets that were written and read back follow each other as their
+-- records do, across a leap second too. Assumes nothing.
 use Prim.Native.Nat.{ℕ, _+_, _%_, _^_, _<_}
 use mathlib.Core.Bool.{true}
 use mathlib.Core.Path.{_≡_}

@@ -303,6 +303,29 @@ pub fn seconds_of(first: Timestamp) -> Vec<Timestamp> {
     list
 }
 
+/// Pairs of UTCO, seconds and milliseconds around a leap second, each of a kind of its own.
+const KNOWN: [[(u16, u64, u16); 2]; 9] = [
+    [(5, 9, 600), (6, 10, 0)],
+    [(5, 9, 600), (4, 10, 0)],
+    [(5, 9, 600), (7, 10, 0)],
+    [(16_383, 9, 0), (0, 9, 400)],
+    [(0, 9, 0), (16_383, 9, 400)],
+    [(0, 9, 0), (16_382, 9, 400)],
+    [(16_382, 9, 0), (0, 9, 400)],
+    [(5, 9, 600), (6, 9, 600)],
+    [(5, 9, 600), (5, 9, 1_000)],
+];
+
+pub fn known_leaps() -> [[Timestamp; 2]; 9] {
+    KNOWN.map(|pair| {
+        pair.map(|(utco, seconds, milliseconds)| Timestamp {
+            utco,
+            seconds,
+            milliseconds,
+        })
+    })
+}
+
 /// In time, a millisecond off, a second off, and at the time of the first.
 pub const OFFS: [i64; 6] = [400, 399, 401, 1_400, -600, 0];
 
@@ -329,7 +352,7 @@ pub fn leaps(offs: &[i64]) -> Vec<[Timestamp; 2]> {
 
 fn fixed_pairs(_random: &mut Random) -> Vec<Vec<u8>> {
     let mut list = Vec::new();
-    for [first, second] in leaps(&OFFS) {
+    for [first, second] in known_leaps().into_iter().chain(leaps(&OFFS)) {
         list.push(Pair { first, second });
     }
     for utco in [0, 16_383, 16_384] {

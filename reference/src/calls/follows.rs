@@ -1,6 +1,6 @@
 //! Call 45: whether one MDI packet follows another (document 01, "Clock and recordings"; document 02, E3).
 
-use super::clock::{later, leaps, seconds_of, timestamp, LAST, OFFS};
+use super::clock::{known_leaps, later, leaps, seconds_of, timestamp, LAST, OFFS};
 use super::Call;
 use crate::answer::Answer;
 use crate::clock::{self, Moment, Timestamp};
@@ -132,7 +132,7 @@ fn fixed(_random: &mut Random) -> Vec<Vec<u8>> {
             }
         }
     }
-    for stamps in leaps(&OFFS) {
+    for stamps in known_leaps().into_iter().chain(leaps(&OFFS)) {
         list.push(pair([7, 8], [1, 1], stamps));
     }
     // Where one is absent the UTCOs may be as far apart as they like; where the counts are wrong they do not help.
