@@ -1,3 +1,4 @@
+pub mod Register
 pub mod Answers
 pub mod Sequence
 pub mod Twice

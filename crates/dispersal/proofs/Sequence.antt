@@ -12,7 +12,7 @@ use Rattle.laws.proofs.Xor.{xor-twice}
 use Rattle.dispersal.specs.Dispersal.{push, next, dispersedFrom, ones, dispersed}
 
 -- the register n bytes later
-after : ℕ → ℕ → ℕ
+unfoldable pub after : ℕ → ℕ → ℕ
 after r zero = r
 after r (suc n) = after (next r) n
 
@@ -35,6 +35,18 @@ after-add : (r m n : ℕ) → after r (m + n) ≡ after (after r m) n
 unfolding after
 after-add r zero n = ap (after r) (zero-add n)
 after-add r (suc m) n = ap (after r) (suc-add m n) ∙ after-add (next r) m n
+
+-- the register one byte on
+pub after-one : (r n : ℕ) → next (after r n) ≡ after r (n + 1)
+unfolding after
+after-one r n = sym (after-add r n 1)
+
+-- byte k of a block is XORed with the low eight bits of the register after it
+pub byte-at : (xs : List ℕ) (k q : ℕ) → k < length xs → q % 512 ≡ next (after ones k) → bitXor (getD xs k 0) (q % 256) ≡ getD (dispersed xs) k 0
+unfolding dispersed
+byte-at xs k q h e =
+    let low : q % 256 ≡ q % 512 % 256 = omega arith in
+    ap (bitXor (getD xs k 0)) (low ∙ ap (λ (r : ℕ). r % 256) e) ∙ sym (from-at ones xs k h)
 
 -- the sequence comes round after 511 bytes: antt computes it
 period : after ones 511 ≡ ones
@@ -61,10 +73,6 @@ dispersed-at xs k h =
     ∙ ap₂ (λ (x r : ℕ). bitXor x (next r % 256)) (getD-replicate 511 (k % 511) 0 0 m)
     (sym (turns (k / 511) (k % 511)) ∙ ap (after ones) (div-add-mod' k 511)))
     ∙ sym (from-at ones xs k h)
-
--- the same by a table t and a running entry k
-pub entry-at : (xs t : List ℕ) (i k : ℕ) → t ≡ bytes → k ≡ i % 511 → i < length xs → bitXor (getD xs i 0) (getD t k 0) ≡ getD (dispersed xs) i 0
-entry-at xs t i k p q h = ap₂ (λ (l : List ℕ) (n : ℕ). bitXor (getD xs i 0) (getD l n 0)) p q ∙ dispersed-at xs i h
 
 twice-from : (r : ℕ) (xs : List ℕ) → dispersedFrom r (dispersedFrom r xs) ≡ xs
 unfolding dispersedFrom

@@ -1,16 +1,19 @@
-// Energy dispersal (01, "Dispersal"; 000, 7.2.2): data from an input to an output buffer, XORed with the dispersal bytes.
-mod table;
-
+// Energy dispersal (01, "Dispersal"; 000, 7.2.2): data from an input to an output buffer, XORed with the dispersal bytes, which are worked out
+// from the register while going along.
 ghost use mathlib.Core.Path.{_≡_};
-ghost use Prim.Native.Nat.{_+_, _%_, _<_};
-ghost use Rattle.dispersal.specs.Dispersal.{numberFor, outputFor};
+ghost use Prim.Native.Nat.{_/_, _%_};
+ghost use Rattle.dispersal.specs.Dispersal.{push, next, numberFor, outputFor};
 
-// The entry after entry k, round the period.
-fn after(k: usize) -> usize
-    requires { ⌜ k < 511 ⌝ }
-    ensures { λ r. ⌜ r ≡ (k + 1) % 511 ⌝ }
+// The last bits of the sequence, with eight more behind them. The newest stands lowest: the low nine are the register, the nine above them
+// those that left it last. Each bit is the sum modulo 2 of those 5 and 9 places before it, and so of those 10 and 18 places before it
+// (x^9+x^5+1 squared is x^18+x^10+1): none of the eight needs another of them. What stands above the eighteen is of no use, and falls
+// out at the top.
+fn eight_more(bits: u32) -> u32
+    requires { ⌜ bits % 512 ≡ push (next (bits / 512 % 512)) ⌝ }
+    ensures register { λ r. ⌜ r % 512 ≡ next (bits % 512) ⌝ }
+    ensures above { λ r. ⌜ r % 512 ≡ push (next (r / 512 % 512)) ⌝ }
 {
-    if k == 510 { 0 } else { k + 1 }
+    (bits << 8) + ((bits >> 2) ^ (bits >> 10)) % 256
 }
 
 // Writes the input, dispersed, to the front of the output. Refused with 1: an input over 65,528 bytes, an output shorter than the input.
@@ -24,14 +27,14 @@ pub fn disperse(input: &[u8], output: &mut [u8]) -> u32
     if output.len() < input.len() {
         return 1;
     }
-    // Once a call: a constant array that is indexed in a loop is written out anew in each turn.
-    let table = table::TABLE;
+    // Nine ones, and above them the nine bits that the rule, read backwards, gives before them: 011110000.
+    let mut bits: u32 = 0x1e1ff;
     let mut i = 0;
-    let mut k = 0;
     while i < input.len() {
-        output[i] = input[i] ^ table[k];
+        let more = eight_more(bits);
+        output[i] = input[i] ^ ((more % 256) as u8);
+        bits = more;
         i += 1;
-        k = after(k);
     }
     0
 }

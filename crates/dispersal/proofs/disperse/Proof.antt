@@ -1,24 +1,25 @@
 -- `dispersal::disperse` meets its contract. The invariant: the first i bytes of the output are those of the dispersed input, the
--- others stand as they were, and k is the table's entry for byte i. Assumes nothing.
-use mathlib.Core.Path.{_≡_, refl, sym, _∙_}
-use Prim.Native.Nat.{_-_, _≤_, _%_}
+-- others stand as they were; the low nine of the bits are the register after i bytes, and the nine above them those before it. Assumes nothing.
+use mathlib.Core.Path.{_≡_, refl, sym, ap, _∙_}
+use Prim.Native.Nat.{_-_, _/_, _%_, _≤_}
 use native.Mathlib.Omega.{arith}
 use lib.ListN.{length, take, length-set}
 use borrow.Author.Needs.{needs}
 use Rattle.laws.specs.Written.{written}
 use Rattle.laws.proofs.Written.{written-none, written-front}
-use Rattle.dispersal.specs.Dispersal.{dispersed, dispersedFrom, next, push}
+use Rattle.dispersal.specs.Dispersal.{push, next, ones, dispersed}
 use Rattle.dispersal.proofs.Answers.{too-long, too-short, done}
-use Rattle.dispersal.proofs.Sequence.{bytes, length-dispersed, entry-at}
+use Rattle.dispersal.proofs.Sequence.{after, after-one, byte-at, length-dispersed}
 use Rattle.dispersal.proofs.disperse.Statement.{statement}
 use Rattle.dispersal.proofs.disperse.Tie as tie
 
 abbrev Inv-loop : tie.InvT-loop
-Inv-loop input output₀ table i₀ k₀ output i k =
-    (table ≡ bytes) × (i ≤ length input) × (k ≡ i % 511) × (output ≡ written output₀ 0 (take i (dispersed input))) × (length output ≡ length output₀)
+Inv-loop input output₀ bits₀ i₀ output bits i =
+    (i ≤ length input) × (bits % 512 ≡ after ones i) × (bits % 512 ≡ push (next (bits / 512 % 512)))
+    × (output ≡ written output₀ 0 (take i (dispersed input))) × (length output ≡ length output₀)
 
 abbrev μ-loop : tie.MeasureT-loop
-μ-loop input output₀ table i₀ k₀ output i k = length input - i
+μ-loop input output₀ bits₀ i₀ output bits i = length input - i
 
 returns : tie.Need-returns Inv-loop μ-loop
 returns c =
@@ -30,25 +31,25 @@ returns-2 c =
     let a = c .before .before .before .before .args in
     too-short (a .input .now) (a .output .now) (c .before .if1 .left) (c .if2 .taken)
 
--- the one test of the table: antt computes the sequence and compares all 511 entries
+-- nine ones, and that they follow the nine bits above them: antt computes it
 loop-holds : tie.Need-loop-holds Inv-loop μ-loop
-unfolding dispersed dispersedFrom next push
-loop-holds c = (refl, omega arith, refl, sym (written-none (c .before .before .before .before .args .output .now) 0), refl)
+unfolding after next push
+loop-holds c = (omega arith, refl, refl, sym (written-none (c .before .before .before .before .args .output .now) 0), refl)
+
+eight-more-requires : tie.Need-eight-more-requires Inv-loop μ-loop
+eight-more-requires c κs = c .before .loop .inv .2
 
 shared-slice-read-output : tie.Need-shared-slice-read-output Inv-loop μ-loop
 shared-slice-read-output c = omega arith
 
-array-read-output : tie.Need-array-read-output Inv-loop μ-loop
-array-read-output c = omega arith
+cast-output : tie.Need-cast-output Inv-loop μ-loop
+cast-output c = omega arith
 
 slice-write-output : tie.Need-slice-write-output Inv-loop μ-loop
 slice-write-output c = omega arith
 
 add-i : tie.Need-add-i Inv-loop μ-loop
 add-i c = omega arith
-
-after-requires : tie.Need-after-requires Inv-loop μ-loop
-after-requires c κs = omega arith
 
 loop-less : tie.Need-loop-less Inv-loop μ-loop
 loop-less c = omega arith
@@ -59,12 +60,14 @@ loop-again c =
     let a = l .before .before .before .before .before .args in
     let S = a .input .now in
     let h = c .before .before .loop-test .taken in
-    let n = l .loop .inv in (
-      n .0,
+    let n = l .loop .inv in
+    let m = c .before .eight-more .ensures in
+    let r = m .0 ∙ ap next (n .1) in (
       omega arith,
-      c .after .ensures ∙ omega arith,
+      r ∙ after-one ones (l .loop .i),
+      m .1,
       written-front (a .output .now) (l .loop .output) (dispersed S) (l .loop .i) _ (rw length-dispersed (omega arith)) (rw length-dispersed h)
-          (entry-at S _ (l .loop .i) (l .loop .k) (n .0) (n .2) h) (n .3),
+          (byte-at S (l .loop .i) _ h r) (n .3),
       simp length-set (n .4),
     )
 
@@ -86,11 +89,11 @@ disperse-spec =
     returns
     returns-2
     loop-holds
+    eight-more-requires
     shared-slice-read-output
-    array-read-output
+    cast-output
     slice-write-output
     add-i
-    after-requires
     loop-less
     loop-again
     same-length
