@@ -1,7 +1,7 @@
 //! Energy dispersal of ES 201 980, clause 7.2.2 (document 01, "Dispersal").
 //!
-//! Document 01 has the 511 bytes stand as a stored table. Here there is none: the sequence is worked
-//! out bit by bit for the whole length of the input, so that the table and its period are tested too.
+//! The sequence is worked out bit by bit, as the clause has it, for the whole length of the input: no
+//! table (document 01 has one of 511 bytes, and 02 in E6 does without), no period, no bytes at once.
 
 use crate::refusal::{Refusal, LONGEST_INPUT};
 

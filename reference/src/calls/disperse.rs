@@ -21,8 +21,8 @@ pub const DISPERSE: Call = Call {
 };
 
 /// Around the period of the sequence, twice the period, and the longest input.
-const LENGTHS: [usize; 12] = [
-    0, 1, 2, 510, 511, 512, 1_022, 1_023, 65_527, 65_528, 65_529, 70_000,
+const LENGTHS: [usize; 13] = [
+    0, 1, 2, 510, 511, 512, 1_021, 1_022, 1_023, 65_527, 65_528, 65_529, 70_000,
 ];
 
 fn answer(body: &mut Reader) -> Option<Answer> {
@@ -57,8 +57,10 @@ fn fixed(random: &mut Random) -> Vec<Vec<u8>> {
             bodies.push(body(&input, &generate::buffer(random, output_length)));
         }
     }
-    // Two zero bytes give 07 BE, a longer run of them the sequence itself, twice.
-    for content in [vec![0; 2], vec![0; 1_022], vec![0xAA; 4]] {
+    // Two zero bytes give 07 BE, a longer run of them the sequence itself, twice and one byte more; ones
+    // give its complement.
+    let runs = [vec![0; 2], vec![0; 1_023], vec![0xFF; 1_023], vec![0xAA; 4]];
+    for content in runs {
         for output_length in generate::output_lengths(content.len()) {
             let input = Buffer::Given(content.clone());
             bodies.push(body(&input, &generate::buffer(random, output_length)));
