@@ -1,7 +1,8 @@
 #!/bin/sh
 # Instructions per call of the proved code and of plain C, and their ratio, for each row that 'bench list' names; limits.txt has the limits.
 # usage: bench/count.sh [ROW..]
-# Status 0: counted. 1: a row is above what limits.txt allows it, or the two codes give different answers. 2: it could not be counted.
+# Status 0: counted. 1: a row is above what limits.txt allows it, the two codes give different answers, or the code of dispersal reads stored data.
+# 2: it could not be counted.
 set -eu
 here=$(cd "$(dirname "$0")" && pwd -P)
 root=$(dirname "$here")
@@ -70,6 +71,12 @@ done
 rows=$(bench list) || cannot "the bench does not run."
 calls=${*:-$(echo "$rows" | sed 's/ .*//; /_state$/d')}
 status=0
+# E6 of 02: dispersal has no table, neither one of its own nor one that the compiler made. Its code then names no place but its own.
+places=$("${cc%gcc}objdump" -r -j .text.keshgurvat_disperse "$root/target/staticlib/libhost.a") || cannot "no sections of libhost.a by objdump."
+if echo "$places" | grep -q R_X86_64; then
+    echo "disperse: its code reads stored data"
+    status=1
+fi
 printf '%-18s %10s %10s %7s %9s %9s\n' '' Rattle 'gcc -O2' ratio limit 'by value'
 for call in $calls; do
     echo "$rows" | grep -q "^$call " || cannot "there is no row $call."
