@@ -51,6 +51,7 @@ static uint32_t receive_rattle(size_t p, const uint8_t *s) {
     received.delivered = r.delivered;
     received.id = r.id;
     received.length = r.length;
+    received.dropped = r.dropped;
     return r.number;
 }
 #define LOAD_C(s) plain_load(&state, s, store, sizeof store, 1, unit, sizeof unit)
@@ -191,7 +192,7 @@ static unsigned long long sum_all(unsigned long long sum) {
         sum = (((sum * 31 + link.link[k].heard) * 31 + link.link[k].index) * 31 + link.link[k].begun) * 31 + link.link[k].len;
     for (int k = 0; k < 3; k++) sum = sum * 31 + framed.packets[k];
     sum = (sum * 31 + framed.spares) * 31 + framed.filler;
-    return ((sum * 31 + received.delivered) * 31 + received.id) * 31 + received.length;
+    return (((sum * 31 + received.delivered) * 31 + received.id) * 31 + received.length) * 31 + received.dropped;
 }
 
 int main(int argc, char **argv) {

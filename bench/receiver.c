@@ -8,6 +8,7 @@ uint32_t plain_receive(struct keshgurvat_receiver *state, size_t p, uint8_t *buf
     received->delivered = false;
     received->id = 0;
     received->length = 0;
+    received->dropped = 0;
     if (p == 0 || p > 255) return 13;
     for (int i = 0; i < 4; i++)
         if (state->link[i].index > 7 || (state->link[i].begun && state->link[i].len > 4096)) return 17;
@@ -18,12 +19,16 @@ uint32_t plain_receive(struct keshgurvat_receiver *state, size_t p, uint8_t *buf
     bool first = head >> 7, last = head >> 6 & 1, padded = head >> 3 & 1;
     size_t n = padded ? packet[1] : p;
     struct keshgurvat_link *l = &state->link[id];
-    if (l->heard && l->index != index) l->begun = false;
+    if (l->begun && l->heard && l->index != index) {
+        received->dropped = l->len;
+        l->begun = false;
+    }
     l->heard = true;
     l->index = (index + 1) & 7;
     if (!l->begun) l->len = 0;
     if (first && last && n == 0) return 0;
     if (first) {
+        received->dropped += l->len; /* 0 where no unit is open any more */
         l->begun = true;
         l->len = 0;
     }
@@ -38,6 +43,8 @@ uint32_t plain_receive(struct keshgurvat_receiver *state, size_t p, uint8_t *buf
         received->delivered = true;
         received->id = id;
         received->length = len;
+    } else {
+        received->dropped = len; /* no break and no first packet comes here: either is skipped, or fits */
     }
     l->begun = false;
     l->len = 0;

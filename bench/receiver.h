@@ -5,7 +5,7 @@
 struct plain_received {
     bool delivered;
     uint8_t id;
-    size_t length;
+    size_t length, dropped;
 };
 uint32_t plain_receive(struct keshgurvat_receiver *state, size_t p, uint8_t *buffer, size_t buffer_len, const uint8_t *packet,
                        size_t packet_len, struct plain_received *received);

@@ -118,20 +118,27 @@ KESHGURVAT_LAYOUT(sizeof(struct keshgurvat_receiver) == 24);
 KESHGURVAT_FIELD(keshgurvat_receiver, link, 0);
 
 /* The answer to a packet: the number; whether it completed a unit, and then its id and length: its bytes are the first `length` at
-   id * 4,096 of the buffer, until the id's next packet comes; and the receiver after it. id and length are 0 where no unit is complete. */
+   id * 4,096 of the buffer, until the id's next packet comes; the bytes it dropped; and the receiver after it. id and length are 0 where no
+   unit is complete.
+   dropped (E5 of 02) counts bytes of the unit that was open for the packet's id; the first of these that holds counts, and once. Another
+   index than the next one: the unit's bytes so far. A packet that begins a new unit, so a first one that is not null: the same. A unit that
+   would pass 4,096 bytes: its bytes so far and all useful bytes of this packet, 4,097 to 4,351. Otherwise 0, and 0 where it is refused. The
+   bytes of a packet that is skipped do not count. A packet that is a whole unit may drop one and complete one, itself. The receiver keeps no
+   sum: adding up is the caller's. */
 struct keshgurvat_received {
     uint32_t number;
     bool delivered;
     uint8_t id;
-    size_t length;
+    size_t length, dropped;
     struct keshgurvat_receiver next;
 };
-KESHGURVAT_LAYOUT(sizeof(struct keshgurvat_received) == 40);
+KESHGURVAT_LAYOUT(sizeof(struct keshgurvat_received) == 48);
 KESHGURVAT_FIELD(keshgurvat_received, number, 0);
 KESHGURVAT_FIELD(keshgurvat_received, delivered, 4);
 KESHGURVAT_FIELD(keshgurvat_received, id, 5);
 KESHGURVAT_FIELD(keshgurvat_received, length, 8);
-KESHGURVAT_FIELD(keshgurvat_received, next, 16);
+KESHGURVAT_FIELD(keshgurvat_received, dropped, 16);
+KESHGURVAT_FIELD(keshgurvat_received, next, 24);
 
 /* Energy dispersal of a block, to the front of the output; applied twice it gives the block back.
    1: input over 65,528 bytes; output shorter than the input. */

@@ -155,7 +155,7 @@ uint32_t model_frame(struct keshgurvat_sender *state, const struct keshgurvat_se
     return 0;
 }
 
-/* ---- the receiver, in the order of its paragraph */
+/* ---- the receiver, in the order of its paragraph; where that drops the open unit, its bytes are counted (E5 of 02) */
 uint32_t model_receive(struct keshgurvat_receiver *state, size_t p, uint8_t *buffer, size_t room, const uint8_t *packet, size_t n,
                        struct model_unit *unit) {
     memset(unit, 0, sizeof *unit);
@@ -168,11 +168,13 @@ uint32_t model_receive(struct keshgurvat_receiver *state, size_t p, uint8_t *buf
     size_t id = packet[0] >> 4 & 3, index = packet[0] & 7, useful = padded ? packet[1] : p;
     struct keshgurvat_link *link = &state->link[id];
     size_t length = link->begun ? link->len : 0; /* of the open unit */
-    bool open = link->begun && (!link->heard || link->index == index);
+    bool open = link->begun;
+    if (open && link->heard && link->index != index) open = false, unit->dropped += length;
     link->heard = true, link->index = (uint8_t)((index + 1) % 8);
     if (!(padded && useful == 0 && first && last)) {
+        if (first && open) unit->dropped += length;
         if (first) open = true, length = 0;
-        if (open && length + useful > 4096) open = false;
+        if (open && length + useful > 4096) open = false, unit->dropped += length + useful; /* with the packet that did not fit */
         if (open) {
             memcpy(buffer + 4096 * id + length, packet + 1 + padded, useful);
             length += useful;

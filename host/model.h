@@ -1,5 +1,5 @@
-/* A second account of document 01, for the comparison in test.c: from the page's sentences, on plain lists, one bit or one packet at a
-   time, with none of the library's code. Each call acts on its arguments in place and gives the number; a refusal changes nothing. */
+/* A second account of document 01 and of E5 of 02, for the comparison in test.c: from their sentences, on plain lists, one bit or one packet
+   at a time, with none of the library's code. Each call acts on its arguments in place and gives the number; a refusal changes nothing. */
 #ifndef MODEL_H
 #define MODEL_H
 #include "keshgurvat.h"
@@ -10,7 +10,7 @@ struct model_counts {
 };
 struct model_unit {
     bool delivered;
-    size_t id, length;
+    size_t id, length, dropped; /* dropped: bytes of a unit that was open */
 };
 
 uint32_t model_disperse(const uint8_t *input, size_t n, uint8_t *output, size_t room);

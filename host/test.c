@@ -31,6 +31,26 @@ static void test_seen(void) {
     }
 }
 
+/* ---- how often each cause dropped a byte or more of an open unit; a break alone, with a first flag, and by a null packet */
+enum cause { BREAK, BREAK_FIRST, BREAK_NULL, FIRST, OVERLENGTH, CAUSES };
+static unsigned long causes[CAUSES];
+static void saw_dropped(const struct keshgurvat_link link[4], const uint8_t *packet, size_t dropped) { /* link: before the packet */
+    const struct keshgurvat_link *l = &link[packet[0] >> 4 & 3];
+    bool null = packet[0] >> 6 == 3 && (packet[0] & 8) && packet[1] == 0;
+    if (dropped == 0) return;
+    if (l->heard && l->index != (packet[0] & 7)) causes[null ? BREAK_NULL : packet[0] & 128 ? BREAK_FIRST : BREAK]++;
+    else causes[packet[0] & 128 ? FIRST : OVERLENGTH]++;
+}
+static void test_causes(void) {
+    static const char *const name[CAUSES] = {"break", "break and first", "break and null", "first", "overlength"};
+    printf("%-14s", "bytes dropped");
+    for (int c = 0; c < CAUSES; c++) {
+        printf("  %s: %lu", name[c], causes[c]);
+        check(causes[c] >= 100, "bytes dropped, cause", (unsigned long)c); /* test_dropped alone is a few of each */
+    }
+    printf("\n");
+}
+
 /* ---- chance */
 static uint64_t chance;
 static uint64_t draw(void) { /* splitmix64 */
@@ -149,7 +169,9 @@ static struct keshgurvat_received receive(struct keshgurvat_receiver *state, siz
     check(a.got.number == number && a.got.delivered == unit.delivered && a.got.id == unit.id && a.got.length == unit.length
               && same_receiver(&a.got.next, &want) && settled(&input) && settled(&buffer)
               && intact(a.before) && intact(a.behind), "receive", t);
+    check(a.got.dropped == unit.dropped, "receive's dropped bytes", t);
     saw(RECEIVE, a.got.number);
+    saw_dropped(state->link, input.model, unit.dropped);
     *state = a.got.next;
     return a.got;
 }
@@ -215,12 +237,12 @@ static void spoil_sender(struct keshgurvat_sender *t, size_t p) {
     }
 }
 
-/* a packet that is whole, or not; its length is given back */
-static size_t some_packet(uint8_t *to, size_t p, size_t id, size_t index) {
+/* a packet that is whole, or not, each flag set one time in `rate`; its length is given back */
+static size_t some_packet(uint8_t *to, size_t p, size_t id, size_t index, size_t rate) {
     uint8_t useful[255];
     size_t n = one_in(3) ? p : below(p + 1);
     for (size_t i = 0; i < n; i++) useful[i] = (uint8_t)draw();
-    model_packet(to, p, one_in(3), one_in(3), id, index, useful, one_in(10) ? 0 : n);
+    model_packet(to, p, one_in(rate), one_in(rate), id, index, useful, one_in(10) ? 0 : n);
     switch (below(16)) {
     case 0: to[below(p + 3)] ^= (uint8_t)(1 << below(8)); break;                                           /* a bit turned */
     case 1: to[0] |= 8, to[1] = (uint8_t)(p - 1 + below(2)), model_seal(to, p); break;                      /* a count of p - 1 or p */
@@ -228,6 +250,7 @@ static size_t some_packet(uint8_t *to, size_t p, size_t id, size_t index) {
     case 3: to[p] = (uint8_t)draw(), model_seal(to, p); break;                                              /* padding that is not 0 */
     case 4: to[below(p + 1)] = (uint8_t)draw(), model_seal(to, p); break;
     case 5: return one_in(2) ? p + 2 : one_in(2) ? p + 4 : below(260);
+    case 6: case 7: model_packet(to, p, true, true, id, index, NULL, 0); break;                             /* null */
     }
     return p + 3;
 }
@@ -252,7 +275,7 @@ static void test_disperse(void) {
 static void test_packet_check(void) {
     static uint8_t packet[600];
     for (unsigned long t = 0; t < 4000; t++) {
-        size_t p = some_p(), n = some_packet(packet, p, below(4), below(8));
+        size_t p = some_p(), n = some_packet(packet, p, below(4), below(8), 3);
         packet_check(one_in(20) ? ONE_OF(odd_p) : one_in(30) ? some_p() : p, packet, n, t);
     }
 }
@@ -284,24 +307,94 @@ static void test_sender_calls(void) { /* any state, one call */
 static void test_receiver_calls(void) { /* any record, one packet */
     static const size_t rooms[] = {0, 16383, 16385, 4096};
     static uint8_t packet[600];
-    for (unsigned long t = 0; t < 4000; t++) {
+    for (unsigned long t = 0; t < 8000; t++) {
         size_t p = some_p(), id = below(4), room = one_in(25) ? ONE_OF(rooms) : 16384;
         struct keshgurvat_receiver r;
         for (int i = 0; i < 4; i++) {
             size_t len = one_in(3) ? 4096 - below(p + 2) : below(4097);
-            struct keshgurvat_link k = {!one_in(4), (uint8_t)below(8), one_in(2), (uint16_t)len};
+            struct keshgurvat_link k = {!one_in(4), (uint8_t)below(8), !one_in(3), (uint16_t)len};
             if (one_in(60)) k.index = one_in(2) ? 8 : 255;
             if (one_in(60)) k.len = one_in(2) ? 4097 : 65535;
             r.link[i] = k;
         }
-        size_t n = some_packet(packet, p, id, one_in(3) ? below(8) : r.link[id].index % 8u);
+        size_t n = some_packet(packet, p, id, one_in(2) ? below(8) : r.link[id].index % 8u, 3);
         lend(&buffer, NULL, room);
         receive(&r, one_in(30) ? ONE_OF(odd_p) : p, room, packet, n, t);
     }
 }
 
-/* Units of a fresh sender, p unchanged, every packet to a fresh receiver: they come back per id in order, byte for byte. No call meets 17.
-   Where it is `lossy` some packets are lost, and only the model says what comes back. */
+/* Packets by chance to one receiver, few of them with a flag, so that units grow past their limit; indexes break now and then. */
+static void test_receiver_run(unsigned long t) {
+    static uint8_t packet[600];
+    size_t p = 255 - below(one_in(2) ? 100 : 255);
+    struct keshgurvat_receiver r = keshgurvat_receiver_fresh();
+    lend(&buffer, NULL, 16384);
+    for (int k = 0; k < 400; k++) {
+        size_t id = below(4), n = some_packet(packet, p, id, one_in(60) ? below(8) : r.link[id].index, 30);
+        receive(&r, p, 16384, packet, n, t);
+    }
+}
+
+/* E5 of 02: what a packet drops of an open unit, worked out by hand. */
+static void test_dropped(void) {
+    /* p 4, id 0: four bytes are open, index 1 comes next; `whole` is the length of the unit that is delivered, `open` of the one open then */
+    static const uint8_t begin[7] = {0x80, 1, 2, 3, 4, 0xc1, 0x20};
+    static const struct { uint8_t packet[7]; size_t dropped, whole, open; } then[] = {
+        {{0x4a, 1, 9, 0, 0, 0x51, 0x10}, 4, 0, 0}, /* index 2, last: a break, and the packet itself is skipped */
+        {{0x82, 9, 10, 11, 12, 0xa1, 0x60}, 4, 0, 4}, /* index 2, first: counted once */
+        {{0xc9, 0, 0, 0, 0, 0x75, 0x37}, 0, 0, 4}, /* null, index 1 */
+        {{0xca, 0, 0, 0, 0, 0x9b, 0xe5}, 4, 0, 0}, /* null, index 2 */
+        {{0xc9, 1, 7, 0, 0, 0x86, 0x13}, 4, 1, 0}, {{0xca, 1, 7, 0, 0, 0x68, 0xc1}, 4, 1, 0}, /* a whole unit, index 1 and 2 */
+        {{0x49, 1, 7, 0, 0, 0xa4, 0xc3}, 0, 5, 0}}; /* last, index 1 */
+    for (size_t i = 0; i < sizeof then / sizeof then[0]; i++) {
+        struct keshgurvat_receiver r = keshgurvat_receiver_fresh();
+        lend(&buffer, NULL, 16384);
+        struct keshgurvat_received d = receive(&r, 4, 16384, begin, 7, i);
+        check(d.number == 0 && d.dropped == 0 && r.link[0].len == 4, "a unit begun", i);
+        d = receive(&r, 4, 16384, then[i].packet, 7, i);
+        check(d.number == 0 && d.dropped == then[i].dropped && d.delivered == (then[i].whole > 0) && d.length == then[i].whole
+                  && r.link[0].begun == (then[i].open > 0) && r.link[0].len == then[i].open, "dropped after four bytes", i);
+    }
+    /* p 255, id 1, index 5 comes next: the limits. Id 0 has 4,096 bytes open, which no packet of id 1 drops. */
+    enum { F = 128, L = 64 };
+    static const struct { int open, flags; size_t index, useful, dropped; } at[] = { /* open -1: none, and its length says nothing */
+        {4090, 0, 5, 7, 4097}, {4090, 0, 5, 6, 0}, {4090, L, 5, 6, 0}, {3842, L, 5, 255, 4097}, {3841, L, 5, 255, 0}, /* fits, or not */
+        {4096, L, 5, 255, 4351}, {4096, 0, 5, 1, 4097}, {4096, 0, 5, 0, 0}, {4096, L, 5, 0, 0},
+        {4096, F, 5, 255, 4096}, {4096, F, 5, 0, 4096}, {1, F | L, 5, 255, 1}, {4096, F | L, 5, 0, 0}, /* first; the last of them is null */
+        {4096, 0, 6, 255, 4096}, {4090, L, 4, 7, 4090}, {1, 0, 1, 0, 1}, {4096, F, 6, 255, 4096}, {4096, F | L, 6, 0, 4096}, /* a break */
+        {-1, L, 5, 255, 0}, {-1, 0, 6, 255, 0}, {-1, F, 6, 255, 0}, {0, 0, 6, 255, 0}, {0, F, 5, 255, 0}}; /* no byte open */
+    static uint8_t useful[255], packet[258];
+    for (size_t i = 0; i < sizeof at / sizeof at[0]; i++) {
+        struct keshgurvat_receiver r = {{{true, 3, true, 4096}, {true, 5, at[i].open >= 0, (uint16_t)(at[i].open < 0 ? 4096 : at[i].open)}}};
+        lend(&buffer, NULL, 16384);
+        model_packet(packet, 255, at[i].flags & F, at[i].flags & L, 1, at[i].index, useful, at[i].useful);
+        struct keshgurvat_received d = receive(&r, 255, 16384, packet, 258, i);
+        check(d.number == 0 && d.dropped == at[i].dropped && r.link[0].begun && r.link[0].len == 4096, "dropped at the limits", i);
+        if (at[i].dropped <= 4096) continue; /* what follows of a unit that was too long is skipped: its bytes are not counted */
+        model_packet(packet, 255, false, true, 1, 6, useful, 255);
+        d = receive(&r, 255, 16384, packet, 258, i);
+        check(d.number == 0 && !d.delivered && d.dropped == 0, "skipped behind an overlength", i);
+    }
+    for (size_t i = 0; i < 2; i++) { /* first contact takes any index: the unit stays open, unless it grows too long */
+        struct keshgurvat_receiver r = {{{false, 5, true, 4096}}};
+        lend(&buffer, NULL, 16384);
+        model_packet(packet, 255, false, false, 0, 6, useful, i);
+        check(receive(&r, 255, 16384, packet, 258, i).dropped == 4097 * i, "dropped at first contact", i);
+    }
+    for (size_t i = 0; i < 6; i++) { /* each refusal, of a packet that would drop 4,096 bytes by its index */
+        static const uint32_t number[] = {13, 17, 1, 1, 16, 16};
+        struct keshgurvat_receiver r = {{{true, 3, true, 4096}, {true, 5, true, 4096}, {true, i == 1 ? 8 : 7, false, 0}}};
+        lend(&buffer, NULL, 16384);
+        model_packet(packet, 255, true, false, 1, 6, useful, 9);
+        if (i == 4) packet[257] ^= 1;
+        if (i == 5) packet[1] = 255, model_seal(packet, 255);
+        struct keshgurvat_received d = receive(&r, i == 0 ? 0 : 255, 16384 - (i == 2), packet, 258 - (i == 3), i);
+        check(d.number == number[i] && d.dropped == 0 && r.link[1].len == 4096, "a refused packet drops nothing", i);
+    }
+}
+
+/* Units of a fresh sender, p unchanged, every packet to a fresh receiver: they come back per id in order, byte for byte. No call meets 17,
+   and no packet drops a byte. Where it is `lossy` some packets are lost, and only the model says what comes back. */
 static struct { uint8_t bytes[4096]; size_t length; } sent_units[3][16]; /* the last 16 of each queue, by number */
 static struct keshgurvat_settings run_settings(size_t p, bool large) {
     struct keshgurvat_settings s = some_settings(p);
@@ -313,7 +406,7 @@ static void test_run(unsigned long t, bool lossy, bool large) {
     struct keshgurvat_sender state = keshgurvat_sender_fresh();
     struct keshgurvat_receiver r = keshgurvat_receiver_fresh();
     struct keshgurvat_settings s = run_settings(p, large);
-    bool right = true, no_17 = true;
+    bool right = true, no_17 = true, whole = true;
     lend(&store, NULL, 12288), lend(&buffer, NULL, 16384);
     for (int step = 0; step < 50; step++) {
         for (size_t k = below(4); k; k--) {
@@ -330,7 +423,7 @@ static void test_run(unsigned long t, bool lossy, bool large) {
         for (size_t at = 0; at < s.n * (p + 3); at += p + 3) {
             if (lossy && one_in(6)) continue;
             struct keshgurvat_received d = receive(&r, p, 16384, output.model + at, p + 3, t);
-            no_17 &= d.number == 0;
+            no_17 &= d.number == 0, whole &= lossy || d.dropped == 0;
             if (!d.delivered || lossy) continue;
             size_t k = back[d.id]++;
             right &= k < given[d.id] && sent_units[d.id][k % 16].length == d.length
@@ -338,7 +431,7 @@ static void test_run(unsigned long t, bool lossy, bool large) {
         }
     }
     for (int id = 0; id < 3 && !lossy; id++) right &= back[id] + state.q[id].count == given[id];
-    check(right, "units come back", t), check(no_17, "a run meets no 17", t);
+    check(right, "units come back", t), check(no_17, "a run meets no 17", t), check(whole, "a run in order drops nothing", t);
 }
 
 static void test_fresh(void) {
@@ -375,8 +468,11 @@ int main(int argc, char **argv) {
     test_settings();
     test_sender_calls();
     test_receiver_calls();
+    test_dropped();
+    for (unsigned long t = 0; t < 40; t++) test_receiver_run(t);
     for (unsigned long t = 0; t < 24; t++) test_run(t, t % 4 == 3, t < 2);
     test_seen();
+    test_causes();
     printf("%lu passed, %lu failed\n", passed, failed);
     return failed != 0 || passed == 0;
 }

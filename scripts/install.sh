@@ -3,7 +3,8 @@
 # PREFIX/lib/pkgconfig/keshgurvat.pc. The archive is proved and built first, unless one is named. DESTDIR goes before the places written to.
 set -eu
 ROOT=$(cd "$(dirname "$0")/.." && pwd -P)
-VERSION=1.0.0
+# the first number rises where a struct or a call of the header changes
+VERSION=2.0.0
 prefix=${1:-} dest=${2:-} archive=${3:-}
 case $prefix in
 /*) ;;

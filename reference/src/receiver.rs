@@ -1,5 +1,5 @@
 //! The receiver of the shared stream: four ids, one packet a call (document 01, "Packets, queues and
-//! receiver"; "Numbers given back": 17).
+//! receiver"; "Numbers given back": 17; document 02, E5: the bytes dropped).
 
 use crate::packet::{self, Packet};
 use crate::refusal::{refuse, Refusal};
@@ -31,41 +31,49 @@ impl Link {
         refuse(17, self.open != 0 && usize::from(self.length) > ID_BYTES)
     }
 
-    /// No unit is open any more.
-    fn drop_unit(&mut self) {
+    /// No unit is open any more; the bytes of the one that was, 0 where there was none.
+    fn close(&mut self) -> usize {
+        let bytes = match self.open {
+            0 => 0,
+            _ => usize::from(self.length),
+        };
         (self.open, self.length) = (0, 0);
+        bytes
     }
 
-    /// Takes an accepted packet of this id in; the buffer is the id's part. The length where a unit ends.
-    fn take(&mut self, packet: &Packet, buffer: &mut [u8]) -> Option<usize> {
+    /// Takes an accepted packet of this id in; the buffer is the id's part. What is dropped is counted
+    /// where document 01's paragraph drops it; behind a break no unit is open, so none counts twice.
+    fn take(&mut self, packet: &Packet, buffer: &mut [u8]) -> Heard {
         let header = packet.header;
         let expected = self.heard == 0 || header.index == self.index;
         (self.heard, self.index) = (1, (header.index + 1) % (HIGHEST_INDEX + 1));
+        let mut heard = Heard::default();
         if self.open == 0 || !expected {
-            self.drop_unit();
+            heard.dropped += self.close();
         }
         if is_null(packet) {
-            return None;
+            return heard;
         }
         if header.first {
-            (self.open, self.length) = (1, 0);
+            heard.dropped += self.close();
+            self.open = 1;
         }
         if self.open == 0 {
-            return None;
+            return heard;
         }
         let begin = usize::from(self.length);
         let end = begin + packet.useful.len();
         if end > ID_BYTES {
-            self.drop_unit();
-            return None;
+            heard.dropped += self.close() + packet.useful.len();
+            return heard;
         }
         buffer[begin..end].copy_from_slice(&packet.useful);
         self.length = end as u16;
-        if !header.last {
-            return None;
+        if header.last {
+            let (id, length) = (usize::from(header.id), self.close());
+            heard.ended = Some(Delivered { id, length });
         }
-        self.drop_unit();
-        Some(end)
+        heard
     }
 }
 
@@ -88,6 +96,16 @@ impl Delivered {
     }
 }
 
+/// What an accepted packet does.
+#[derive(Debug, Clone, Copy, Default, PartialEq, Eq)]
+pub struct Heard {
+    /// The unit that it ends.
+    pub ended: Option<Delivered>,
+    /// Bytes of the open unit that it drops: by an index break, as a new first packet or, with all of its
+    /// own useful bytes, by overlength.
+    pub dropped: usize,
+}
+
 /// The record of the four ids as it is handed in: any content.
 #[derive(Debug, Clone, Copy, Default, PartialEq, Eq)]
 pub struct Receiver {
@@ -95,13 +113,8 @@ pub struct Receiver {
 }
 
 impl Receiver {
-    /// Takes one packet in, and tells which unit it ends.
-    pub fn step(
-        &mut self,
-        p: u64,
-        buffer: &mut [u8],
-        bytes: &[u8],
-    ) -> Result<Option<Delivered>, Refusal> {
+    /// Takes one packet in, and tells which unit it ends and what it drops.
+    pub fn step(&mut self, p: u64, buffer: &mut [u8], bytes: &[u8]) -> Result<Heard, Refusal> {
         packet::check_p(p)?;
         for link in &self.links {
             link.check()?;
@@ -110,8 +123,7 @@ impl Receiver {
         let packet = packet::read(p, bytes)?; // 1, 16
         let id = usize::from(packet.header.id);
         let part = &mut buffer[ID_BYTES * id..ID_BYTES * (id + 1)];
-        let ended = self.links[id].take(&packet, part);
-        Ok(ended.map(|length| Delivered { id, length }))
+        Ok(self.links[id].take(&packet, part))
     }
 }
 
@@ -159,11 +171,16 @@ mod tests {
         fn take(&mut self, flags: u8, id: u8, index: u8, useful: &[u8]) -> Option<Vec<u8>> {
             let mut bytes = [0; 7];
             packet::write(4, header(flags, id, index), useful, &mut bytes).unwrap();
-            let ended = self.receiver.step(4, &mut self.buffer, &bytes).unwrap();
-            ended.map(|ended| {
+            self.step(&bytes).ended.map(|ended| {
                 assert_eq!(ended.id, usize::from(id));
                 ended.unit(&self.buffer).to_vec()
             })
+        }
+
+        /// A packet that is accepted.
+        fn step(&mut self, bytes: &[u8]) -> Heard {
+            let p = (bytes.len() - FRAMING) as u64;
+            self.receiver.step(p, &mut self.buffer, bytes).unwrap()
         }
 
         fn link(&self, id: usize) -> (u8, u8, u8, u16) {
@@ -181,7 +198,7 @@ mod tests {
             &[0x88, 0, 0, 0, 0, 0xCE, 0x0E],
             &[0x49, 0, 0, 0, 0, 0x57, 0xE7],
         ];
-        let ended = packets.map(|bytes| run.receiver.step(4, &mut run.buffer, bytes).unwrap());
+        let ended = packets.map(|bytes| run.step(bytes).ended);
         assert_eq!(ended[0], None);
         assert_eq!(ended[1], Some(Delivered { id: 1, length: 6 }));
         assert_eq!(ended[2], None);
@@ -263,6 +280,112 @@ mod tests {
         }
     }
 
+    /// What a packet drops after a first packet of four bytes with index 0, all of id 0: the bytes dropped,
+    /// the length delivered, and the length of the unit that is open after it.
+    #[test]
+    fn dropped_after_four_bytes() {
+        let vectors: [(&[u8], usize, Option<usize>, Option<u16>); 7] = [
+            // Index 2, last and not first: a break, and the packet is skipped.
+            (&[0x4A, 1, 9, 0, 0, 0x51, 0x10], 4, None, None),
+            // Index 2, first: counted once.
+            (&[0x82, 9, 10, 11, 12, 0xA1, 0x60], 4, None, Some(4)),
+            // Null, with index 1 and with index 2.
+            (&[0xC9, 0, 0, 0, 0, 0x75, 0x37], 0, None, Some(4)),
+            (&[0xCA, 0, 0, 0, 0, 0x9B, 0xE5], 4, None, None),
+            // A unit of one packet, with index 1 and with index 2.
+            (&[0xC9, 1, 7, 0, 0, 0x86, 0x13], 4, Some(1), None),
+            (&[0xCA, 1, 7, 0, 0, 0x68, 0xC1], 4, Some(1), None),
+            // Last, index 1.
+            (&[0x49, 1, 7, 0, 0, 0xA4, 0xC3], 0, Some(5), None),
+        ];
+        for (packet, dropped, length, open) in vectors {
+            let mut run = Run::new();
+            let first = run.step(&[0x80, 1, 2, 3, 4, 0xC1, 0x20]);
+            assert_eq!(first, Heard::default());
+            let ended = length.map(|length| Delivered { id: 0, length });
+            assert_eq!(run.step(packet), Heard { ended, dropped });
+            let (_, _, flag, bytes) = run.link(0);
+            assert_eq!((flag, bytes), (u8::from(open.is_some()), open.unwrap_or(0)));
+        }
+    }
+
+    /// Overlength drops the open unit with all useful bytes of the packet; the packets of that unit which
+    /// follow are skipped.
+    #[test]
+    fn dropped_by_overlength() {
+        for (p, already, useful, flags, length, dropped) in [
+            (7, 4_090, 7, MIDDLE, None, 4_097),
+            (7, 4_090, 6, MIDDLE, None, 0),
+            (7, 4_090, 6, LAST, Some(4_096), 0),
+            (255, 4_096, 255, LAST, None, 4_351),
+            (255, 4_096, 0, LAST, Some(4_096), 0),
+            (255, 4_096, 0, MIDDLE, None, 0),
+            // A first packet fits always.
+            (255, 4_096, 255, FIRST, None, 4_096),
+            (1, 4_096, 1, MIDDLE, None, 4_097),
+        ] {
+            let mut run = Run::new();
+            run.receiver.links[2] = Link {
+                heard: 1,
+                index: 7,
+                open: 1,
+                length: already,
+            };
+            let mut bytes = vec![0; p + FRAMING];
+            packet::write(p as u64, header(flags, 2, 7), &vec![7; useful], &mut bytes).unwrap();
+            let ended = length.map(|length| Delivered { id: 2, length });
+            assert_eq!(run.step(&bytes), Heard { ended, dropped });
+            packet::write(p as u64, header(LAST, 2, 0), &[7], &mut bytes).unwrap();
+            let open = dropped == 0 && flags == MIDDLE;
+            let next = if open { 4_097 } else { 0 };
+            assert_eq!(run.step(&bytes).dropped, next);
+        }
+    }
+
+    /// The useful bytes of a history, 16, are those delivered, dropped, open and skipped, four each; none
+    /// but the second packet drops, and its own four bytes are skipped.
+    #[test]
+    fn dropped_in_a_history() {
+        let packets: [&[u8]; 6] = [
+            &[0x80, 1, 2, 3, 4, 0xC1, 0x20],
+            &[0x02, 5, 6, 7, 8, 0xBC, 0x0A],
+            &[0x8B, 3, 1, 2, 3, 0xDA, 0x31],
+            &[0x4C, 1, 4, 0, 0, 0xDE, 0xC4],
+            &[0x90, 1, 2, 3, 4, 0xC5, 0x7A],
+            &[0xD9, 0, 0, 0, 0, 0x71, 0x6D],
+        ];
+        let mut run = Run::new();
+        let heard = packets.map(|bytes| run.step(bytes));
+        assert_eq!(heard.map(|heard| heard.dropped), [0, 4, 0, 0, 0, 0]);
+        assert_eq!(heard[3].ended, Some(Delivered { id: 0, length: 4 }));
+        assert_eq!((run.link(0), run.link(1)), ((1, 5, 0, 0), (1, 2, 1, 4)));
+    }
+
+    /// First contact drops nothing by its index; a length is not looked at where no unit is open.
+    #[test]
+    fn dropped_at_first_contact() {
+        for (heard, open, flags, useful, dropped) in [
+            (0, 1, LAST, 1, 0),
+            (0, 1, BOTH, 0, 0),
+            (0, 1, BOTH, 1, 9),
+            (0, 0, BOTH, 1, 0),
+            (1, 0, BOTH, 1, 0),
+            (1, 0, LAST, 1, 0),
+            (1, 1, LAST, 1, 9),
+        ] {
+            let mut run = Run::new();
+            run.receiver.links[1] = Link {
+                heard,
+                index: 3,
+                open,
+                length: 9,
+            };
+            let mut bytes = [0; 7];
+            packet::write(4, header(flags, 1, 5), &[7; 4][..useful], &mut bytes).unwrap();
+            assert_eq!(run.step(&bytes).dropped, dropped);
+        }
+    }
+
     /// What is handed in for an id that is not the packet's stays as it is.
     #[test]
     fn other_ids_stay() {
@@ -334,7 +457,7 @@ mod tests {
         }
     }
 
-    /// Every unit wholly sent comes back, per id in order, byte for byte.
+    /// Every unit wholly sent comes back, per id in order, byte for byte, and nothing is dropped.
     #[test]
     fn from_sender_to_receiver() {
         let mut random = Random::new(1);
@@ -363,8 +486,9 @@ mod tests {
                 let mut frame = vec![0; packets as usize * bytes];
                 sender.frame(&settings, &mut store, &mut frame).unwrap();
                 for packet in frame.chunks(bytes) {
-                    let step = run.receiver.step(settings.p, &mut run.buffer, packet);
-                    if let Some(ended) = step.unwrap() {
+                    let heard = run.step(packet);
+                    assert_eq!(heard.dropped, 0, "round {round}");
+                    if let Some(ended) = heard.ended {
                         let unit = loaded[ended.id].pop_front().unwrap();
                         assert_eq!(ended.unit(&run.buffer), unit, "round {round}");
                         delivered += 1;

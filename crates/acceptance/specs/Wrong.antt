@@ -16,7 +16,8 @@ use Rattle.receiver.specs.declared.Answer as heard
 use Rattle.receiver.specs.declared.Answer.the-variants.{Nothing, Delivered, Refused}
 use Rattle.receiver.specs.declared.Receiver.{Receiver}
 use Rattle.receiver.specs.declared.Told.{Told}
-use Rattle.receiver.specs.Receiver.{stepFor, bufferFor}
+use Rattle.receiver.specs.Receiver.{bufferFor}
+use Rattle.receiver.specs.Dropped.{toldFor}
 use Rattle.sender.specs.declared.Framed.{Framed}
 use Rattle.sender.specs.declared.Loaded.{Loaded}
 use Rattle.sender.specs.declared.Sender.{Sender}
@@ -57,7 +58,7 @@ Listener = ℕ → Receiver → List ℕ → List ℕ → Told × List ℕ
 
 abbrev pub Receives : Listener → Type 0
 Receives f = (p : ℕ) (r : Receiver) (packet buffer : List ℕ) →
-    (f p r packet buffer .0 ≡ stepFor p r packet (length buffer)) × (f p r packet buffer .1 ≡ bufferFor p r packet buffer)
+    (f p r packet buffer .0 ≡ toldFor p r packet (length buffer)) × (f p r packet buffer .1 ≡ bufferFor p r packet buffer)
 
 abbrev pub isUnit : heard.Answer → Type 0
 isUnit Nothing = ⊥

@@ -6,7 +6,8 @@ ghost use lib.ListN.{length};
 ghost use Rattle.dispersal.specs.Dispersal.{numberFor, outputFor};
 ghost use Rattle.packet.specs.Calls.{checkFor};
 ghost use Rattle.hand.specs.Settings.{settingsFor};
-ghost use Rattle.receiver.specs.Receiver.{saidFor, bufferFor};
+ghost use Rattle.receiver.specs.Receiver.{bufferFor};
+ghost use Rattle.receiver.specs.Dropped.{reportFor};
 ghost use Rattle.sender.specs.State.{fresh};
 ghost use Rattle.sender.specs.Load.{loadFor, storeFor};
 ghost use Rattle.sender.specs.Frame.{frameFor, storeAfter, frameOut};
@@ -19,13 +20,15 @@ use sender::Framed;
 use sender::Loaded;
 use sender::Sender;
 
-// What a packet brought: the number; whether a unit is complete, its id and length, all 0 where none is; and the record after the call.
+// What a packet brought: the number; whether a unit is complete, its id and length, all 0 where none is; the bytes of an open unit that were
+// dropped (02, E5); and the record after the call.
 #[repr(C)]
 pub struct Received {
     pub number: u32,
     pub delivered: bool,
     pub id: u8,
     pub length: usize,
+    pub dropped: usize,
     pub next: Receiver,
 }
 
@@ -94,8 +97,8 @@ pub extern "C" fn keshgurvat_receiver_fresh() -> Receiver
 }
 
 // The answer in numbers, since an enum cannot cross to C.
-fn in_numbers(answer: Answer, next: Receiver) -> Received
-    ensures { λ r. ⌜ r ≡ receivedBy answer next ⌝ }
+fn in_numbers(answer: Answer, dropped: usize, next: Receiver) -> Received
+    ensures { λ r. ⌜ r ≡ receivedBy answer dropped next ⌝ }
 {
     match answer {
         Answer::Nothing => Received {
@@ -103,6 +106,7 @@ fn in_numbers(answer: Answer, next: Receiver) -> Received
             delivered: false,
             id: 0,
             length: 0,
+            dropped: dropped,
             next: next,
         },
         Answer::Delivered { id, length } => Received {
@@ -110,6 +114,7 @@ fn in_numbers(answer: Answer, next: Receiver) -> Received
             delivered: true,
             id: id,
             length: length,
+            dropped: dropped,
             next: next,
         },
         Answer::Refused { number } => Received {
@@ -117,6 +122,7 @@ fn in_numbers(answer: Answer, next: Receiver) -> Received
             delivered: false,
             id: 0,
             length: 0,
+            dropped: dropped,
             next: next,
         },
     }
@@ -130,11 +136,12 @@ pub extern "C" fn keshgurvat_receive(
     packet: &[u8],
 ) -> Received
     ensures answer { λ r. ⌜ r ≡ receivedFor p state (now (packet .entry)) (length (now (buffer .entry))) ⌝ }
-    ensures values { λ r. ⌜ said r ≡ saidFor p state (now (packet .entry)) (length (now (buffer .entry))) ⌝ }
+    ensures values { λ r. ⌜ said r ≡ reportFor p state (now (packet .entry)) (length (now (buffer .entry))) ⌝ }
     ensures memory { λ _. ⌜ now (buffer .exit) ≡ bufferFor p state (now (packet .entry)) (now (buffer .entry)) ⌝ }
 {
     let t = state.step(p, buffer, packet);
     let answer = t.answer;
+    let dropped = t.dropped;
     let next = t.next;
-    in_numbers(answer, next)
+    in_numbers(answer, dropped, next)
 }

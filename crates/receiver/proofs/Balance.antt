@@ -21,7 +21,7 @@ delivered-is true true false m = refl
 delivered-is true false t m = refl
 delivered-is false v t m = refl
 
-dropped-is : (j v t : Bool) (m : ℕ) → droppedBy (fate j v t) m ≡ pick (j && not v) m 0
+pub dropped-is : (j v t : Bool) (m : ℕ) → droppedBy (fate j v t) m ≡ pick (j && not v) m 0
 unfolding droppedBy
 dropped-is true true true m = refl
 dropped-is true true false m = refl
@@ -66,7 +66,7 @@ sums false false true true true false i m n e g = omega arith
 sums false false true true false true i m n e g = omega arith
 sums false false true true false false i m n e g = omega arith
 
-null-first : (f t : Bool) (n : ℕ) → nullOf f t n ≡ true → f ≡ true
+pub null-first : (f t : Bool) (n : ℕ) → nullOf f t n ≡ true → f ≡ true
 unfolding nullOf
 null-first true t n e = refl
 null-first false t n e = e

@@ -9,10 +9,9 @@ use Rattle.packet.specs.Packet.{padded, bodyOf, decode}
 use Rattle.packet.specs.Calls.{wrongWord, wrongCount}
 use Rattle.receiver.specs.declared.Link.{Link}
 use Rattle.receiver.specs.declared.Receiver.{Receiver}
-use Rattle.receiver.specs.declared.Told.{Told}
 use Rattle.receiver.specs.declared.Answer.the-variants.{Nothing, Delivered, Refused}
 use Rattle.receiver.specs.Link.{kept, nullOf, baseOf, joins, adds, completes, delivered, added, dropped, skipped, fateOf, linkWith, linkAfter, brokenLink, noLink}
-use Rattle.receiver.specs.Receiver.{fresh, broken, answerBy, answerIn, takenIn, stepTests, stepNumber, stepFor}
+use Rattle.receiver.specs.Receiver.{Stepped, fresh, broken, answerBy, answerIn, takenIn, stepTests, stepNumber, stepFor}
 use Rattle.receiver.specs.Bytes.{openOf, deliveredBy, droppedBy, skippedBy, goneOf, deliveredBytes, droppedBytes, skippedBytes}
 
 -- id 0 with its next index, and an open unit of so many bytes or none
@@ -22,7 +21,7 @@ open-with index n = record { link = record { heard = true; index = index; begun 
 abbrev shut-with : ℕ → Receiver
 shut-with index = record { link = record { heard = true; index = index; begun = false; len = 0 } ∷ noLink ∷ noLink ∷ noLink ∷ [] }
 
-abbrev pub gives : Receiver → List ℕ → Told
+abbrev pub gives : Receiver → List ℕ → Stepped
 gives r s = stepFor 4 r s 16384
 
 -- a unit begins; the next packet but one comes (a break: dropped, and skipped); a new first flag; a null packet leaves the unit open

@@ -4,5 +4,7 @@ pub mod Balance
 pub mod Examples
 pub mod Settled
 pub mod Sound
-mod Facts
+pub mod Facts
 pub mod Rules
+pub mod Dropped
+pub mod Dropping

@@ -14,7 +14,6 @@ use Rattle.packet.specs.Packet.{Packet, decode}
 use Rattle.packet.specs.Calls.{wrongWord, wrongCount}
 use Rattle.receiver.specs.declared.Link.{Link}
 use Rattle.receiver.specs.declared.Receiver.{Receiver}
-use Rattle.receiver.specs.declared.Told.{Told}
 use Rattle.receiver.specs.declared.Answer.the-variants.{Refused}
 use Rattle.receiver.specs.Link.{kept, nullOf, baseOf, adds, linkWith, linkAfter, brokenLink, noLink}
 use Rattle.receiver.specs.Receiver.{linkOf, linkIn, fresh, broken, takenIn, stepTests, stepNumber, stepFor}
@@ -27,7 +26,7 @@ unfolding brokenLink linkWith
 with-fine i n true h = simp (le-ltb 7 ((i + 1) % 8) (omega arith), le-ltb 4096 n (h refl))
 with-fine i n false h = simp (le-ltb 7 ((i + 1) % 8) (omega arith))
 
-len-in : (l : Link) → brokenLink l ≡ false → l .begun ≡ true → l .len ≤ 4096
+pub len-in : (l : Link) → brokenLink l ≡ false → l .begun ≡ true → l .len ≤ 4096
 unfolding brokenLink
 len-in l h b =
     ltb-false 4096 (l .len) (sym (ap (λ (x : Bool). x && ltb 4096 (l .len)) b) ∙ or-false (ltb 7 (l .index)) (l .begun && ltb 4096 (l .len)) h .1)
@@ -53,7 +52,7 @@ pub fine-broken : (r : Receiver) → Fine r → broken r ≡ false
 unfolding broken
 fine-broken r k = simp (k .links 0, k .links 1, k .links 2, k .links 3)
 
-none-fine : brokenLink noLink ≡ false
+pub none-fine : brokenLink noLink ≡ false
 unfolding brokenLink
 none-fine = refl
 
@@ -69,7 +68,7 @@ pub fresh-fine : Fine fresh
 unfolding fresh
 fresh-fine = record { four = refl; links = λ j. rw (fresh-links j) none-fine }
 
-id-in : (p : ℕ) (s : List ℕ) → decode p s .id < 4
+pub id-in : (p : ℕ) (s : List ℕ) → decode p s .id < 4
 unfolding decode
 id-in p s = omega arith
 

@@ -1,6 +1,6 @@
 -- The step: its refusals by the way taken, and what it answers. Assumes nothing.
 use Prim.Native.Nat.{ℕ, _+_, _-_, _*_, _%_, _≤_, _<_}
-use mathlib.Core.Path.{_≡_, refl, sym, ap, _∙_}
+use mathlib.Core.Path.{_≡_, refl, sym, ap, ap₂, _∙_}
 use mathlib.Core.List.{List, []}
 use mathlib.Core.Bool.{Bool, true, false, not, _&&_, _||_}
 use native.Mathlib.Omega.{arith}
@@ -9,6 +9,7 @@ use lib.Dec.{ltb, eqb, lit<}
 use lib.ListN.{length, getD, set, take, drop}
 use Rattle.laws.specs.Pick.{pick}
 use Rattle.laws.specs.Refuse.{refusedWith}
+use Rattle.laws.specs.Said.{Said}
 use Rattle.laws.specs.Written.{written}
 use Rattle.laws.proofs.Refuse.{free}
 use Rattle.moves.specs.Moves.{placed}
@@ -20,10 +21,13 @@ use Rattle.packet.proofs.Reading.{Passed, passed, body-padded, body-full}
 use Rattle.receiver.specs.declared.Link.{Link}
 use Rattle.receiver.specs.declared.Receiver.{Receiver}
 use Rattle.receiver.specs.declared.Told.{Told}
+use Rattle.receiver.specs.declared.Heard.{Heard}
 use Rattle.receiver.specs.declared.Answer.{Answer}
 use Rattle.receiver.specs.declared.Answer.the-variants.{Nothing, Delivered, Refused}
 use Rattle.receiver.specs.Link.{baseOf, joins, adds, completes, Fate, delivered, added, dropped, skipped, fateOf, linkAfter, brokenLink}
+use Rattle.receiver.specs.Bytes.{droppedBytes}
 use Rattle.receiver.specs.Receiver.{linkOf, broken, fateIn, baseIn, answerBy, answerIn, takenIn, bufferIn, stepTests, stepNumber, stepFor, bufferFor, told, valuesBy, saidFor}
+use Rattle.receiver.specs.Dropped.{droppedIn, droppedFor, toldIn, toldFor, heardFor, andDropped, reported, reportFor}
 use Rattle.receiver.specs.Private.{numberWith, saysWith, Checked}
 use Rattle.receiver.proofs.Links.{adds-fit}
 
@@ -126,6 +130,9 @@ part-by p s z false e =
       body = ap (λ (n : ℕ). take n (drop 1 s)) (q .0) ∙ sym (q .1);
     }
 
+pub most-of : (p : ℕ) (s : List ℕ) → checkFor p s ≡ 0 → length (bodyOf p s) ≤ 255
+most-of p s z = part-by p s z (padded (getD s 0 0)) refl .most
+
 -- ---- an accepted packet
 answer-by : (c a j : Bool) (id m : ℕ) → answerBy (pick c delivered (pick a added (pick j dropped skipped))) id m ≡ pick c (Delivered id m) Nothing
 unfolding answerBy
@@ -153,18 +160,20 @@ module _ (r : Receiver) (h : Head) (body buffer : List ℕ) (base : ℕ) (ad : B
       let w = ok .whole in
       omega arith
 
-  pub taken-is : (k : Link) (a : Answer) (out : List ℕ) → out ≡ pick ad (placed buffer (h .id * 4096 + base) body) buffer
+  pub taken-is : (k : Link) (a : Answer) (d : ℕ) (out : List ℕ) → out ≡ pick ad (placed buffer (h .id * 4096 + base) body) buffer
       → k ≡ linkAfter (linkOf r (h .id)) (h .index) (h .first) (h .last) (length body) → a ≡ pick (ad && h .last) (Delivered (h .id) (base + length body)) Nothing
-      → (_≡_ {A = Told} (record { answer = a; next = record { link = set (r .link) (h .id) k } }) (takenIn r (saysWith h body)))
+      → d ≡ droppedBytes (linkOf r (h .id)) (h .index) (h .first) (h .last) (length body)
+      → (_≡_ {A = Told} (record { answer = a; dropped = d; next = record { link = set (r .link) (h .id) k } }) (toldIn r (saysWith h body)))
       × (out ≡ bufferIn r (saysWith h body) buffer)
-  unfolding takenIn answerIn bufferIn
-  taken-is k a out eo ek en = (
+  unfolding toldIn droppedIn takenIn answerIn bufferIn
+  taken-is k a d out eo ek en ed = (
     rw (
       answer-is (linkOf r (h .id)) (h .index) (h .first) (h .last) (length body) (h .id) (baseOf (linkOf r (h .id)) (h .first) + length body),
       ← ea,
       ← eb,
       en,
       ek,
+      ed,
     ),
     eo ∙ rw (← ea, ← eb) (put-by ad buffer body (h .id * 4096 + base) put-in),
   )
@@ -191,18 +200,40 @@ said-is p r s room = go (stepNumber p r s room) (eqb (stepNumber p r s room) 0) 
     go n true e = rw (eqb-true n 0 e) (told-by (fateIn r k) (k .id) (baseIn r k + length (k .chunk .body)))
     go n false e = refl
 
+-- and with the bytes dropped
+pub report-is : (p : ℕ) (r : Receiver) (s : List ℕ) (room : ℕ) → reported (toldFor p r s room .answer) (toldFor p r s room .dropped) ≡ reportFor p r s room
+unfolding toldFor reported reportFor
+report-is p r s room = ap (λ (a : Said). andDropped a (droppedFor p r s room)) (said-is p r s room)
+
+-- what the outer call gives back of it
+abbrev pub heard-of : Told → Heard
+heard-of t = record { answer = t .answer; dropped = t .dropped }
+
+pub heard-is : (p : ℕ) (r : Receiver) (s : List ℕ) (room : ℕ) (t : Told) → t ≡ toldFor p r s room → heard-of t ≡ heardFor p r s room
+unfolding toldFor heardFor
+heard-is p r s room t e = ap heard-of e
+
+-- and with the record behind the loan it is the step's answer again
+abbrev pub told-of : Heard → Receiver → Told
+told-of a u = record { answer = a .answer; dropped = a .dropped; next = u }
+
+pub told-is : (p : ℕ) (r : Receiver) (s : List ℕ) (room : ℕ) (a : Heard) (u : Receiver) → a ≡ heardFor p r s room → u ≡ toldFor p r s room .next
+    → told-of a u ≡ toldFor p r s room
+unfolding toldFor heardFor
+told-is p r s room a u ea eu = ap₂ told-of ea eu
+
 -- ---- the call
 module _ (p : ℕ) (r : Receiver) (s buffer : List ℕ) (h : Head) (eh : h ≡ readFor p s) (n : ℕ) (en : n ≡ numberWith p r (length buffer) (h .number)) where
   step-number : n ≡ stepNumber p r s (length buffer)
   step-number = en ∙ ap (numberWith p r (length buffer)) (ap (λ (x : Head). x .number) eh ∙ head-number p s) ∙ sym (number-is p r s (length buffer))
 
   pub step-refused : (n ≡ 0 → ⊥)
-      → (_≡_ {A = Told} (record { answer = Refused n; next = r }) (stepFor p r s (length buffer)))
-      × ((told (Refused n) ≡ saidFor p r s (length buffer)) × (buffer ≡ bufferFor p r s buffer))
-  unfolding stepFor bufferFor
+      → (_≡_ {A = Told} (record { answer = Refused n; dropped = 0; next = r }) (toldFor p r s (length buffer)))
+      × ((reported (Refused n) 0 ≡ reportFor p r s (length buffer)) × (buffer ≡ bufferFor p r s buffer))
+  unfolding toldFor stepFor droppedFor bufferFor
   step-refused z =
-      let e : _≡_ {A = Told} (record { answer = Refused n; next = r }) (stepFor p r s (length buffer)) = simp (← step-number, ne-eqb n 0 z) in
-      (e, (ap (λ (x : Told). told (x .answer)) e ∙ said-is p r s (length buffer), simp (← step-number, ne-eqb n 0 z)))
+      let e : _≡_ {A = Told} (record { answer = Refused n; dropped = 0; next = r }) (toldFor p r s (length buffer)) = simp (← step-number, ne-eqb n 0 z) in
+      (e, (ap (λ (x : Told). reported (x .answer) (x .dropped)) e ∙ report-is p r s (length buffer), simp (← step-number, ne-eqb n 0 z)))
 
   module _ (z : n ≡ 0) where
     accepted : Accepted p r s (length buffer)
@@ -243,15 +274,15 @@ module _ (p : ℕ) (r : Receiver) (s buffer : List ℕ) (h : Head) (eh : h ≡ r
       unfolding headFor decode
       says = rw (body-is, head-fine)
 
-      pub step-done : (t : Told) (out : List ℕ) → t ≡ takenIn r (saysWith h (take (from + h .length - from) (drop from s)))
+      pub step-done : (t : Told) (out : List ℕ) → t ≡ toldIn r (saysWith h (take (from + h .length - from) (drop from s)))
           → out ≡ bufferIn r (saysWith h (take (from + h .length - from) (drop from s))) buffer
-          → (t ≡ stepFor p r s (length buffer)) × ((told (t .answer) ≡ saidFor p r s (length buffer)) × (out ≡ bufferFor p r s buffer))
-      unfolding stepFor bufferFor
+          → (t ≡ toldFor p r s (length buffer)) × ((reported (t .answer) (t .dropped) ≡ reportFor p r s (length buffer)) × (out ≡ bufferFor p r s buffer))
+      unfolding toldIn toldFor stepFor droppedFor bufferFor
       step-done t out et eo =
-          let e : t ≡ stepFor p r s (length buffer) = simp (← step-number, z) (et ∙ ap (takenIn r) says) in (
+          let e : t ≡ toldFor p r s (length buffer) = simp (← step-number, z) (et ∙ ap (toldIn r) says) in (
             e,
             (
-              ap (λ (x : Told). told (x .answer)) e ∙ said-is p r s (length buffer),
+              ap (λ (x : Told). reported (x .answer) (x .dropped)) e ∙ report-is p r s (length buffer),
               simp (← step-number, z) (eo ∙ ap (λ (x : Packet). bufferIn r x buffer) says),
             ),
           )

@@ -1,5 +1,5 @@
--- What becomes of the bytes, counted (01, "Packets, queues and receiver"): of one packet of an id, from the fate of its useful bytes. No call
--- answers these; sums over a history of packets are made of them. Assumes nothing.
+-- What becomes of the bytes, counted (01, "Packets, queues and receiver"): of one packet of an id, from the fate of its useful bytes. The step
+-- reports `droppedBytes` (02, E5: Dropped.antt); sums over a history of packets are made of all of them. Assumes nothing.
 use Prim.Native.Nat.{ℕ, _+_}
 use mathlib.Core.Bool.{Bool, true, not, _&&_}
 use Rattle.laws.specs.Pick.{pick}

@@ -4,4 +4,6 @@ pub mod Line
 pub mod Bytes
 pub mod Run
 pub mod Rules
+pub mod Dropped
+pub mod Dropping
 pub mod Private

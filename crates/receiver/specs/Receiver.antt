@@ -13,10 +13,14 @@ use Rattle.packet.specs.Packet.{Packet, decode}
 use Rattle.packet.specs.Calls.{wrongWord, wrongCount}
 use Rattle.receiver.specs.declared.Link.{Link}
 use Rattle.receiver.specs.declared.Receiver.{Receiver}
-use Rattle.receiver.specs.declared.Told.{Told}
 use Rattle.receiver.specs.declared.Answer.{Answer}
 use Rattle.receiver.specs.declared.Answer.the-variants.{Nothing, Delivered, Refused}
 use Rattle.receiver.specs.Link.{baseOf, adds, Fate, delivered, added, dropped, skipped, fateOf, linkAfter, brokenLink, noLink}
+
+-- what 01 has a step give back: the answer, and the record after the call. E5 of 02 puts a number beside it (Dropped.antt)
+pub record Stepped : Type 0 where
+  pub answer : Answer
+  pub next : Receiver
 
 abbrev pub linkOf : Receiver → ℕ → Link
 linkOf r id = getD (r .link) id noLink
@@ -54,7 +58,7 @@ unfoldable pub answerIn : Receiver → Packet → Answer
 answerIn r k = answerBy (fateIn r k) (k .id) (baseIn r k + length (k .chunk .body))
 
 -- the answer with the record after it: no other id's part of it changes
-unfoldable pub takenIn : Receiver → Packet → Told
+unfoldable pub takenIn : Receiver → Packet → Stepped
 takenIn r k = record { answer = answerIn r k; next = record { link = set (r .link) (k .id) (linkIn r k) } }
 
 -- the buffer after it: the useful bytes stand at the unit's end, in the id's 4,096 bytes
@@ -72,7 +76,7 @@ unfoldable pub stepNumber : ℕ → Receiver → List ℕ → ℕ → ℕ
 stepNumber p r s room = refusedWith (stepTests p r s room)
 
 -- the answer and the record after the call
-unfoldable pub stepFor : ℕ → Receiver → List ℕ → ℕ → Told
+unfoldable pub stepFor : ℕ → Receiver → List ℕ → ℕ → Stepped
 stepFor p r s room =
     pick (eqb (stepNumber p r s room) 0) (takenIn r (decode p s)) (record { answer = Refused (stepNumber p r s room); next = r })
 

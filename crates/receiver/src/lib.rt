@@ -8,7 +8,9 @@ ghost use Rattle.laws.specs.Pick.{pick};
 ghost use Rattle.moves.specs.Moves.{placed};
 ghost use Rattle.receiver.specs.declared.Answer.the-variants.{Nothing, Delivered};
 ghost use Rattle.receiver.specs.Link.{kept, nullOf, baseOf, joins, adds, linkWith, linkAfter, brokenLink};
-ghost use Rattle.receiver.specs.Receiver.{fresh, broken, takenIn, bufferIn, stepFor, told, saidFor, bufferFor};
+ghost use Rattle.receiver.specs.Bytes.{droppedBytes};
+ghost use Rattle.receiver.specs.Receiver.{fresh, broken, bufferIn, bufferFor};
+ghost use Rattle.receiver.specs.Dropped.{toldIn, toldFor, heardFor, reported, reportFor};
 ghost use Rattle.receiver.specs.Private.{numberWith, saysWith, Checked};
 
 // What is known of one id: whether a packet of it has come, the next index, whether a unit is open, and its bytes so far.
@@ -34,10 +36,17 @@ pub enum Answer {
     Refused { number: u32 },
 }
 
-// The answer, and the record after the call.
+// The answer, the bytes of an open unit that the packet dropped (02, E5), and the record after the call.
 pub struct Told {
     pub answer: Answer,
+    pub dropped: usize,
     pub next: Receiver,
+}
+
+// The same where the record after the call stands behind a loan.
+pub struct Heard {
+    pub answer: Answer,
+    pub dropped: usize,
 }
 
 fn wide(x: u16) -> usize
@@ -117,6 +126,28 @@ impl Link {
         }
         link_with(index, false, 0)
     }
+
+    // The bytes of the open unit that a packet drops (02, E5).
+    fn dropped(self, index: u8, first: bool, last: bool, n: usize) -> usize
+        requires { ⌜ n ≤ 255 ⌝ }
+        ensures { λ r. ⌜ r ≡ droppedBytes self index first last n ⌝ }
+    {
+        if !self.begun {
+            return 0;
+        }
+        let null = is_null(first, last, n);
+        let open = wide(self.len);
+        let all = open + n;
+        // by its index, or by its first flag
+        if !self.is_kept(index) | (first & !null) {
+            return open;
+        }
+        if null | (all <= 4096) {
+            return 0;
+        }
+        // by overlength: the bytes of the packet that did not fit count too
+        all
+    }
 }
 
 // The bytes come to stand at an index of the buffer, or they do not.
@@ -190,7 +221,7 @@ impl Receiver {
     // A packet that is not refused: what its header says, and its useful bytes.
     fn take(self, head: Head, useful: &[u8], buffer: &mut [u8]) -> Told
         requires { ⌜ Checked head (length (now useful)) (length (now buffer)) ⌝ }
-        ensures { λ r. ⌜ r ≡ takenIn self (saysWith head (now (useful .entry))) ⌝ }
+        ensures { λ r. ⌜ r ≡ toldIn self (saysWith head (now (useful .entry))) ⌝ }
         ensures { λ _. ⌜ now (buffer .exit) ≡ bufferIn self (saysWith head (now (useful .entry))) (now (buffer .entry)) ⌝ }
     {
         let n = useful.len();
@@ -204,15 +235,17 @@ impl Receiver {
         next.link[id] = k;
         Told {
             answer: answer_for(adds & head.last, head.id, base + n),
+            dropped: l.dropped(head.index, head.first, head.last, n),
             next: next,
         }
     }
 
     // One packet of p + 3 bytes. Refused with 13: p outside 1 to 255. With 17: the record. With 1: a buffer of another length than 16,384,
-    // a packet of another length than p + 3. With 16: the packet's check word, or its count over p - 1. Then nothing changes.
+    // a packet of another length than p + 3. With 16: the packet's check word, or its count over p - 1. Then nothing changes, and
+    // nothing is dropped.
     pub fn step(self, p: usize, buffer: &mut [u8], packet: &[u8]) -> Told
-        ensures answer { λ r. ⌜ r ≡ stepFor p self (now (packet .entry)) (length (now (buffer .entry))) ⌝ }
-        ensures values { λ r. ⌜ told (r .answer) ≡ saidFor p self (now (packet .entry)) (length (now (buffer .entry))) ⌝ }
+        ensures answer { λ r. ⌜ r ≡ toldFor p self (now (packet .entry)) (length (now (buffer .entry))) ⌝ }
+        ensures values { λ r. ⌜ reported (r .answer) (r .dropped) ≡ reportFor p self (now (packet .entry)) (length (now (buffer .entry))) ⌝ }
         ensures memory { λ _. ⌜ now (buffer .exit) ≡ bufferFor p self (now (packet .entry)) (now (buffer .entry)) ⌝ }
     {
         let head = packet::read(p, packet);
@@ -220,6 +253,7 @@ impl Receiver {
         if number != 0 {
             return Told {
                 answer: Answer::Refused { number: number },
+                dropped: 0,
                 next: self,
             };
         }
@@ -230,14 +264,17 @@ impl Receiver {
 }
 
 // The outer call (01: "a thin outer receiver call updates the caller's four-id record through a mutable loan"). What decides is the step by value.
-// One packet, as `Receiver::step` has it: the answer is returned, and the record after the call stands where the one before stood.
-pub fn step_in(r: &mut Receiver, p: usize, buffer: &mut [u8], packet: &[u8]) -> Answer
-    ensures answer { λ a. ⌜ a ≡ stepFor p (now (r .entry)) (now (packet .entry)) (length (now (buffer .entry))) .answer ⌝ }
-    ensures values { λ a. ⌜ told a ≡ saidFor p (now (r .entry)) (now (packet .entry)) (length (now (buffer .entry))) ⌝ }
-    ensures state { λ _. ⌜ now (r .exit) ≡ stepFor p (now (r .entry)) (now (packet .entry)) (length (now (buffer .entry))) .next ⌝ }
+// One packet, as `Receiver::step` has it: answer and dropped bytes are returned, and the record after the call stands where the one before stood.
+pub fn step_in(r: &mut Receiver, p: usize, buffer: &mut [u8], packet: &[u8]) -> Heard
+    ensures answer { λ a. ⌜ a ≡ heardFor p (now (r .entry)) (now (packet .entry)) (length (now (buffer .entry))) ⌝ }
+    ensures values { λ a. ⌜ reported (a .answer) (a .dropped) ≡ reportFor p (now (r .entry)) (now (packet .entry)) (length (now (buffer .entry))) ⌝ }
+    ensures state { λ _. ⌜ now (r .exit) ≡ toldFor p (now (r .entry)) (now (packet .entry)) (length (now (buffer .entry))) .next ⌝ }
     ensures memory { λ _. ⌜ now (buffer .exit) ≡ bufferFor p (now (r .entry)) (now (packet .entry)) (now (buffer .entry)) ⌝ }
 {
     let t = Receiver::step(*r, p, buffer, packet);
     *r = t.next;
-    t.answer
+    Heard {
+        answer: t.answer,
+        dropped: t.dropped,
+    }
 }

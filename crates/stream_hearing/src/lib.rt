@@ -43,12 +43,13 @@ fn values_of(a: Answer) -> Heard {
     }
 }
 
-// The four values of a packet of call 36, which stood so in the body.
+// The five values of a packet of call 36, which stood so in the body.
 fn tell(r: Run, t: Told, s: Taken) -> Run {
     let a = t.answer;
     let h = values_of(a);
     let said = stream_values::begin_step(r.said, h.number, s.whole);
     let said = saying::three(said, h.given as u64, h.id as u64, h.length as u64);
+    let said = saying::value(said, t.dropped as u64);
     let sender = r.sender;
     let receiver = t.next;
     Run {
@@ -60,11 +61,12 @@ fn tell(r: Run, t: Told, s: Taken) -> Run {
 }
 
 // What the packets of a frame delivered: how many units, the sum of (id + 1) times length, and where their bytes end in a slice that
-// gathers them.
+// gathers them; and the bytes that they dropped.
 struct Gathered {
     units: u64,
     sum: u64,
     end: usize,
+    dropped: u64,
     receiver: Receiver,
 }
 
@@ -93,11 +95,12 @@ fn weight(id: u8, length: usize) -> u64 {
     }
 }
 
-fn counted(g: Gathered, h: Heard, receiver: Receiver) -> Gathered {
+fn counted(g: Gathered, h: Heard, dropped: usize, receiver: Receiver) -> Gathered {
     Gathered {
         units: std::num::wrapping_add_u64(g.units, h.given as u64),
         sum: std::num::wrapping_add_u64(g.sum, weight(h.id, h.length)),
         end: case::past(g.end, h.length),
+        dropped: std::num::wrapping_add_u64(g.dropped, dropped as u64),
         receiver,
     }
 }
@@ -110,7 +113,7 @@ fn hear_one(g: Gathered, p: usize, packet: &[u8], buffer: &mut [u8], all: &mut [
     let h = values_of(a);
     moves::copy(part(buffer, wide(h.id) * 4096, h.length), all, g.end);
     let after = told.next;
-    counted(g, h, after)
+    counted(g, h, told.dropped, after)
 }
 
 // The n packets of a frame, in order.
@@ -134,12 +137,13 @@ fn hear_all(
     r
 }
 
-// The four values of a step of call 37.
+// The five values of a step of call 37.
 fn summed(r: Run, a: Acted, g: Gathered, all: &[u8]) -> Run {
     let done = a.done;
     let word = crc::crc16(case::front(all, g.end));
     let said = stream_values::begin_step(r.said, done.number, a.whole);
     let said = saying::three(said, g.units, g.sum, word as u64);
+    let said = saying::value(said, g.dropped);
     stream_sending::after(a, said, g.receiver)
 }
 
@@ -151,6 +155,7 @@ fn tell_all(r: Run, a: Acted, body: &[u8], frame: &[u8], buffer: &mut [u8]) -> R
         units: 0,
         sum: 0,
         end: 0,
+        dropped: 0,
         receiver,
     };
     let p = fields::read64(body, 0) as usize;
@@ -158,13 +163,13 @@ fn tell_all(r: Run, a: Acted, body: &[u8], frame: &[u8], buffer: &mut [u8]) -> R
     summed(r, a, got, &all)
 }
 
-// A packet of call 36.
+// A packet of call 36, by the receiver's outer call.
 pub fn hear(r: Run, body: &[u8], buffer: &mut [u8]) -> Run {
     let mut packet = [0u8; case::BUFFER];
     let s = case::buffer(body, case::past(r.at, 8), &mut packet);
     let p = fields::read64(body, r.at) as usize;
     let before = r.receiver;
-    let t = before.step(p, buffer, case::front(&packet, s.len));
+    let t = stream_lending::step_lent(before, p, buffer, case::front(&packet, s.len));
     tell(r, t, s)
 }
 

@@ -197,11 +197,15 @@ pub fn worked() -> Vec<Handed> {
         &[0x88, 0, 0, 0, 0, 0xCE, 0x0E],
         &[0x49, 0, 0, 0, 0, 0x57, 0xE7],
     ];
-    let handed = |packet: &[u8]| Handed {
+    packets.into_iter().map(handed).collect()
+}
+
+/// A packet of these bytes, with the p that they have room for.
+pub fn handed(packet: &[u8]) -> Handed {
+    Handed {
         p: (packet.len() - FRAMING) as u64,
         packet: Buffer::Given(packet.to_vec()),
-    };
-    packets.into_iter().map(handed).collect()
+    }
 }
 
 fn fixed_packets(random: &mut Random) -> Vec<Vec<u8>> {

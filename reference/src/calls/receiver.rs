@@ -1,6 +1,7 @@
-//! Call 36: a receiver that is given packets, step by step (document 01, "Packets, queues and receiver").
+//! Call 36: a receiver that is given packets, step by step (document 01, "Packets, queues and receiver";
+//! document 02, E5).
 
-use super::packet::{self, packed, Handed, NO_P};
+use super::packet::{self, handed, packed, Handed, NO_P};
 use super::Call;
 use crate::answer::Answer;
 use crate::buffer::Buffer;
@@ -15,7 +16,7 @@ use crate::refusal::Refusal;
 use crate::sender::IDS;
 use std::collections::VecDeque;
 
-/// Its values have no names: each step has four, and the receiver 16.
+/// Its values have no names: each step has five, and the receiver 16.
 pub const SCRIPT: Call = Call {
     code: 36,
     name: "receiver script",
@@ -64,10 +65,12 @@ fn answer(body: &mut Reader) -> Option<Answer> {
         let done = receiver.step(*p, &mut buffer, &packet.bytes());
         last = done.err().unwrap_or(Refusal::number(0));
         values.push(u64::from(last.number));
-        values.extend(match done.ok().flatten() {
+        let heard = done.unwrap_or_default();
+        values.extend(match heard.ended {
             Some(ended) => [1, ended.id as u64, ended.length as u64],
             None => [0; 3],
         });
+        values.push(heard.dropped as u64);
     }
     for link in &receiver.links {
         values.push(u64::from(link.heard != 0));
@@ -270,6 +273,15 @@ fn record(random: &mut Random, p: usize) -> Receiver {
     receiver
 }
 
+/// A record likewise, in which the open units are full but for two packets or less.
+fn nearly_full(random: &mut Random, p: usize) -> Receiver {
+    let mut receiver = record(random, p);
+    for link in receiver.links.iter_mut().filter(|link| link.open != 0) {
+        link.length = (ID_BYTES - random.below(2 * p as u64 + 1) as usize) as u16;
+    }
+    receiver
+}
+
 fn random_p(random: &mut Random) -> usize {
     match random.below(20) {
         0 | 1 => random.pick(&[171, 200, 254, 255, 255]),
@@ -334,6 +346,29 @@ fn rough(random: &mut Random, source: &mut Source, count: usize) -> Vec<Handed> 
     packets
 }
 
+/// Packets that mostly go on with a unit and do not end it, until it is too long.
+fn unending(random: &mut Random, source: &mut Source, count: usize) -> Vec<Handed> {
+    let ids = some_ids(random);
+    let mut packets = Vec::new();
+    while packets.len() < count {
+        let id = random.pick(&ids);
+        let useful = random.below(source.p as u64 + 1) as usize;
+        let tried = match random.below(12) {
+            0 => NULL,
+            1 => piece(true, false, useful),
+            2 => piece(true, true, useful),
+            3 => piece(false, true, useful),
+            4 | 5 => piece(false, false, useful),
+            _ => piece(false, false, source.p),
+        };
+        if random.one_in(12) {
+            source.indexes[id] = random.below(8) as u8;
+        }
+        packets.push(source.packet(random, id, tried));
+    }
+    packets
+}
+
 fn lose(random: &mut Random, source: &mut Source, id: usize, lost: usize) {
     for _ in 0..lost {
         source.next(random, id);
@@ -350,7 +385,9 @@ fn some_ids(random: &mut Random) -> Vec<usize> {
 
 fn random_script(random: &mut Random) -> Vec<u8> {
     let p = random_p(random);
+    let kind = random.below(4);
     let receiver = match random.below(5) {
+        _ if kind == 0 => nearly_full(random, p),
         0 | 1 => Receiver::default(),
         _ => record(random, p),
     };
@@ -361,8 +398,9 @@ fn random_script(random: &mut Random) -> Vec<u8> {
         7 | 8 => 12 + random.below(12) as usize,
         _ => LONGEST,
     };
-    let packets = match random.below(3) {
-        0 => clean(random, &mut source, count),
+    let packets = match kind {
+        0 => unending(random, &mut source, count),
+        1 => clean(random, &mut source, count),
         _ => rough(random, &mut source, count),
     };
     let script = Script::new(random, receiver, packets);
@@ -560,6 +598,166 @@ fn records(random: &mut Random) -> Vec<Script> {
     list
 }
 
+/// What a packet meets on its id.
+struct Meeting {
+    link: Link,
+    p: usize,
+    index: u8,
+    piece: Piece,
+}
+
+/// This packet where its index is the one expected, where another is, and where that does not matter since
+/// nothing was heard; each on no open unit and on open ones, up to those that it fills or is too much for.
+fn meetings(random: &mut Random, p: usize, tried: Piece) -> Vec<Meeting> {
+    let room = ID_BYTES - tried.useful;
+    let mut lengths = vec![0, 1, room, room + 1, ID_BYTES];
+    lengths.retain(|length| *length <= ID_BYTES);
+    lengths.dedup();
+    let mut list = Vec::new();
+    for (heard, expected) in [(1, true), (1, false), (0, false)] {
+        let mut units = vec![(0, random.pick(&[0, 5, 4_097, 65_535]))];
+        units.extend(lengths.iter().map(|length| (1, *length as u16)));
+        for (open, length) in units {
+            let index = random.below(8) as u8;
+            let other = (index + 1 + random.below(7) as u8) % 8;
+            let next = if expected { index } else { other };
+            list.push(Meeting {
+                link: link(heard, next, open, length),
+                p,
+                index,
+                piece: tried,
+            });
+        }
+    }
+    list
+}
+
+/// A packet an id; behind them one more an id with one byte and the last flag, which ends an open unit, is
+/// too much for it, or is skipped.
+fn together(random: &mut Random, meetings: &[Meeting]) -> Script {
+    let mut receiver = Receiver::default();
+    let turn = random.below(IDS as u64) as usize;
+    let (mut packets, mut behind) = (Vec::new(), Vec::new());
+    for (place, met) in meetings.iter().enumerate() {
+        let id = (turn + place) % IDS;
+        receiver.links[id] = met.link;
+        packets.push(packet_of(random, met.p, id, met.index, met.piece));
+        let next = (met.index + 1) % 8;
+        behind.push(packet_of(random, 1, id, next, piece(false, true, 1)));
+    }
+    packets.extend(behind);
+    Script::new(random, receiver, packets)
+}
+
+/// Every kind of packet on every kind of unit, four meetings a script.
+fn each_drop(random: &mut Random) -> Vec<Script> {
+    let mut list = Vec::new();
+    for p in [1, 4, 7, 255] {
+        let mut counts = vec![0, 1, p];
+        counts.dedup();
+        for flags in 0..4 {
+            for useful in &counts {
+                let tried = piece(flags & 1 != 0, flags & 2 != 0, *useful);
+                list.extend(meetings(random, p, tried));
+            }
+        }
+    }
+    list.chunks(IDS)
+        .map(|meetings| together(random, meetings))
+        .collect()
+}
+
+/// The packets that the documents work out: what each of seven drops of four open bytes, and a history.
+fn worked_drops(random: &mut Random) -> Vec<Script> {
+    let first = [0x80, 1, 2, 3, 4, 0xC1, 0x20];
+    let behind: [&[u8]; 7] = [
+        &[0x4A, 1, 9, 0, 0, 0x51, 0x10],
+        &[0x82, 9, 10, 11, 12, 0xA1, 0x60],
+        &[0xC9, 0, 0, 0, 0, 0x75, 0x37],
+        &[0xCA, 0, 0, 0, 0, 0x9B, 0xE5],
+        &[0xC9, 1, 7, 0, 0, 0x86, 0x13],
+        &[0xCA, 1, 7, 0, 0, 0x68, 0xC1],
+        &[0x49, 1, 7, 0, 0, 0xA4, 0xC3],
+    ];
+    let mut histories: Vec<Vec<&[u8]>> = behind.map(|packet| vec![&first[..], packet]).to_vec();
+    histories.push(vec![
+        &first,
+        &[0x02, 5, 6, 7, 8, 0xBC, 0x0A],
+        &[0x8B, 3, 1, 2, 3, 0xDA, 0x31],
+        &[0x4C, 1, 4, 0, 0, 0xDE, 0xC4],
+        &[0x90, 1, 2, 3, 4, 0xC5, 0x7A],
+        &[0xD9, 0, 0, 0, 0, 0x71, 0x6D],
+    ]);
+    histories
+        .into_iter()
+        .map(|packets| Script::fresh(random, packets.into_iter().map(handed).collect()))
+        .collect()
+}
+
+/// An open unit, and the packets of its id that drop it, each in its way, and the one that ends it.
+fn droppers(random: &mut Random, id: usize) -> (Link, [Handed; 5]) {
+    let index = random.below(8) as u8;
+    let other = (index + 1 + random.below(7) as u8) % 8;
+    let packets = [
+        (other, piece(false, false, 2)),
+        (index, piece(true, false, 2)),
+        (index, piece(false, true, 7)),
+        (other, NULL),
+        (index, piece(false, true, 6)),
+    ]
+    .map(|(index, piece)| packet_of(random, 7, id, index, piece));
+    (link(1, index, 1, 4_090), packets)
+}
+
+/// Refusals where a unit is open: nothing is dropped, and the packet as it should be does what it does.
+fn refused_while_open(random: &mut Random) -> Vec<Script> {
+    let mut list = Vec::new();
+    for id in 0..IDS {
+        let (open, packets) = droppers(random, id);
+        let mut receiver = Receiver::default();
+        receiver.links[id] = open;
+        // 16 twice, 1 and 13, each of the packet that then is accepted.
+        for good in &packets {
+            let mut spoiled: Vec<Handed> = [0, 1, 2, 4]
+                .map(|kind| {
+                    let mut bad = good.clone();
+                    packet::FAULTS[kind](&mut bad, random);
+                    bad
+                })
+                .to_vec();
+            spoiled.push(good.clone());
+            list.push(Script::new(random, receiver, spoiled));
+        }
+        // 17 by another id and by the open unit itself, and 1 by the buffer: all packets are refused.
+        let mut broken = Script::new(random, receiver, packets.to_vec());
+        broken.receiver.links[(id + 1) % IDS].index = 8;
+        let mut overlong = Script::new(random, receiver, packets.to_vec());
+        overlong.receiver.links[id].length = 4_097;
+        let mut short = Script::new(random, receiver, packets.to_vec());
+        short.buffer = generate::compact(random, BUFFER_BYTES - 1);
+        list.extend([broken, overlong, short]);
+    }
+    list
+}
+
+/// A unit of three packets whose second is damaged, 16: it comes once more, or the third is a break.
+fn damaged(random: &mut Random) -> Vec<Script> {
+    let mut list = Vec::new();
+    for id in 0..IDS {
+        for repeated in [true, false] {
+            let mut source = Source::of(random, 4, &Receiver::default());
+            let mut packets = source.all(random, id, &unit(4, 10));
+            let good = packets[1].clone();
+            packet::FAULTS[1](&mut packets[1], random);
+            if repeated {
+                packets.insert(2, good);
+            }
+            list.push(Script::fresh(random, packets));
+        }
+    }
+    list
+}
+
 fn fixed(random: &mut Random) -> Vec<Vec<u8>> {
     let mut list = vec![Script::fresh(random, vec![])];
     list.push(Script::fresh(random, packet::worked()));
@@ -597,6 +795,10 @@ fn fixed(random: &mut Random) -> Vec<Vec<u8>> {
         let packets = clean(random, &mut source, count);
         list.push(Script::fresh(random, packets));
     }
+    list.extend(each_drop(random));
+    list.extend(worked_drops(random));
+    list.extend(refused_while_open(random));
+    list.extend(damaged(random));
     bodies(list)
 }
 
@@ -628,7 +830,7 @@ mod tests {
         }
     }
 
-    /// A unit in two packets, a refused packet between: four values each, then the receiver's 16.
+    /// A unit in two packets, a refused packet between: five values each, then the receiver's 16.
     #[test]
     fn values_of_a_script() {
         let worked = packet::worked();
@@ -637,7 +839,7 @@ mod tests {
         script.buffer = Buffer::Given(vec![0; BUFFER_BYTES]);
         script.receiver.links[3] = link(2, 5, 0, 9);
         let answer = answered(&script);
-        let mut expected = vec![0, 0, 0, 0, 16, 0, 0, 0, 0, 1, 1, 6];
+        let mut expected = vec![0, 0, 0, 0, 0, 16, 0, 0, 0, 0, 0, 1, 1, 6, 0];
         expected.extend([0, 0, 0, 0, 1, 2, 0, 0, 0, 0, 0, 0, 1, 5, 0, 9]);
         assert_eq!((answer.number, answer.values), (0, expected));
         let mut buffer = vec![0; BUFFER_BYTES];
@@ -655,7 +857,7 @@ mod tests {
             let answer = answer(&mut Reader::new(&body)).unwrap();
             let steps = answer.values.len() - 16;
             let units: Vec<&[u64]> = answer.values[..steps]
-                .chunks(4)
+                .chunks(5)
                 .filter(|step| step[1] == 1)
                 .collect();
             delivering += usize::from(!units.is_empty());
@@ -663,5 +865,42 @@ mod tests {
             longest += units.iter().filter(|unit| unit[3] == 4_096).count();
         }
         assert!(delivering > 500 && empty > 50 && longest > 10);
+    }
+
+    /// How often a script drops a unit with a byte in it: by an index break, by a first packet, by overlength.
+    fn drops(body: &[u8]) -> [usize; 3] {
+        let script = Script::read(&mut Reader::new(body)).unwrap();
+        let (mut receiver, mut buffer) = (script.receiver, script.buffer.bytes());
+        let mut found = [0; 3];
+        for Handed { p, packet } in &script.packets {
+            let before = receiver;
+            let Ok(heard) = receiver.step(*p, &mut buffer, &packet.bytes()) else {
+                continue;
+            };
+            let header = crate::packet::read(*p, &packet.bytes()).unwrap().header;
+            let link = before.links[usize::from(header.id)];
+            let kind = match heard.dropped {
+                0 => continue,
+                1..=ID_BYTES if header.index != link.index && link.heard != 0 => 0,
+                1..=ID_BYTES => 1,
+                _ => 2,
+            };
+            found[kind] += 1;
+        }
+        found
+    }
+
+    /// Among random scripts, units are dropped in each of the three ways in many.
+    #[test]
+    fn units_are_dropped() {
+        let mut random = Random::new(4);
+        let mut dropping = [0; 3];
+        for _ in 0..1_000 {
+            let body = random_script(&mut random);
+            for (count, found) in dropping.iter_mut().zip(drops(&body)) {
+                *count += usize::from(found > 0);
+            }
+        }
+        assert!(dropping.iter().all(|count| *count > 150), "{dropping:?}");
     }
 }

@@ -1,4 +1,5 @@
-//! Call 37: whole runs from a fresh sender to a fresh receiver (document 01, "Packets, queues and receiver").
+//! Call 37: whole runs from a fresh sender to a fresh receiver (document 01, "Packets, queues and receiver";
+//! document 02, E5).
 
 use super::settings::{self, Set};
 use super::Call;
@@ -15,7 +16,7 @@ use crate::receiver::{Receiver, BUFFER_BYTES};
 use crate::refusal::{Refusal, LONGEST_INPUT};
 use crate::sender::{Sender, Settings, QUEUE_BYTES, STORE_BYTES, UNITS};
 
-/// Its values have no names: each step has four.
+/// Its values have no names: each step has five.
 pub const SCRIPT: Call = Call {
     code: 37,
     name: "through script",
@@ -71,6 +72,32 @@ impl Set for Run {
     }
 }
 
+/// What arrives in a step.
+#[derive(Default)]
+struct Arrived {
+    /// The units delivered, in order, each with its id.
+    units: Vec<(usize, Vec<u8>)>,
+    /// Bytes dropped over all packets: 0 in every run, since every packet is given in order.
+    dropped: usize,
+}
+
+impl Arrived {
+    fn values(&self) -> [u64; 4] {
+        let weighed = |(id, unit): &(usize, Vec<u8>)| (id + 1) as u64 * unit.len() as u64;
+        let bytes: Vec<u8> = self
+            .units
+            .iter()
+            .flat_map(|(_, unit)| unit.clone())
+            .collect();
+        [
+            self.units.len() as u64,
+            self.units.iter().map(weighed).sum(),
+            u64::from(crc16(&bytes)),
+            self.dropped as u64,
+        ]
+    }
+}
+
 /// Both ends of the stream.
 struct Ends {
     sender: Sender,
@@ -89,20 +116,22 @@ impl Ends {
         }
     }
 
-    /// The units that a frame's packets deliver, in order, each with its id.
-    fn frame(&mut self, settings: &Settings) -> Result<Vec<(usize, Vec<u8>)>, Refusal> {
+    /// What arrives with a frame's packets.
+    fn frame(&mut self, settings: &Settings) -> Result<Arrived, Refusal> {
         settings.check()?;
         let length = settings.p as usize + FRAMING;
         let mut frame = vec![0; settings.packets as usize * length];
         self.sender.frame(settings, &mut self.store, &mut frame)?;
-        let mut units = Vec::new();
+        let mut arrived = Arrived::default();
         for packet in frame.chunks(length) {
-            let step = self.receiver.step(settings.p, &mut self.buffer, packet)?;
-            if let Some(ended) = step {
-                units.push((ended.id, ended.unit(&self.buffer).to_vec()));
+            let heard = self.receiver.step(settings.p, &mut self.buffer, packet)?;
+            arrived.dropped += heard.dropped;
+            if let Some(ended) = heard.ended {
+                let unit = ended.unit(&self.buffer).to_vec();
+                arrived.units.push((ended.id, unit));
             }
         }
-        Ok(units)
+        Ok(arrived)
     }
 }
 
@@ -119,17 +148,12 @@ fn answer(body: &mut Reader) -> Option<Answer> {
             LOAD => ends
                 .sender
                 .load(&settings, &mut ends.store, step.id, &step.unit.bytes())
-                .map(|()| Vec::new()),
+                .map(|()| Arrived::default()),
             _ => ends.frame(&settings),
         };
         last = *done.as_ref().err().unwrap_or(&Refusal::number(0));
-        let units = done.unwrap_or_default();
-        let weighed = |(id, unit): &(usize, Vec<u8>)| (id + 1) as u64 * unit.len() as u64;
-        let bytes: Vec<u8> = units.iter().flat_map(|(_, unit)| unit.clone()).collect();
         values.push(u64::from(last.number));
-        values.push(units.len() as u64);
-        values.push(units.iter().map(weighed).sum());
-        values.push(u64::from(crc16(&bytes)));
+        values.extend(done.unwrap_or_default().values());
     }
     let mut answer = Answer::refused(last);
     answer.values = values;
@@ -349,9 +373,9 @@ mod tests {
         run.steps[1].unit = Buffer::Given(vec![1, 2, 3, 4, 5, 6]);
         let answer = answered(&run);
         let check_word = u64::from(crc16(&[1, 2, 3, 4, 5, 6, 9]));
-        let mut expected = vec![0; 20];
-        expected[8] = 14;
-        expected[13..16].copy_from_slice(&[2, 2 * 6 + 3, check_word]);
+        let mut expected = vec![0; 25];
+        expected[10] = 14;
+        expected[16..19].copy_from_slice(&[2, 2 * 6 + 3, check_word]);
         assert_eq!((answer.number, answer.values), (0, expected));
         assert_eq!(answer.buffers, []);
     }
@@ -362,8 +386,40 @@ mod tests {
         let answer = answered(&of(&mut Random::new(1), settings, &[(0, 1)], 1));
         assert_eq!(
             (answer.number, answer.values),
-            (13, vec![13, 0, 0, 0, 13, 0, 0, 0])
+            (13, vec![13, 0, 0, 0, 0, 13, 0, 0, 0, 0])
         );
+    }
+
+    /// From fresh ends, with every packet given in order, no step of any run drops a byte.
+    #[test]
+    fn nothing_is_dropped() {
+        let mut random = Random::new(4);
+        let mut bodies = fixed(&mut random);
+        bodies.extend((0..500).map(|_| random_run(&mut random)));
+        for body in bodies {
+            if let Some(answer) = answer(&mut Reader::new(&body)) {
+                assert!(answer.values.chunks(5).all(|step| step[4] == 0));
+            }
+        }
+    }
+
+    /// Where an index is passed over, the sum shows it: the open bytes of both ids, in one frame.
+    #[test]
+    fn what_is_dropped_is_added_up() {
+        let settings = settings::of(4, 2, [1, 1, 0], [1; 3]);
+        let mut ends = Ends::fresh();
+        for (id, length) in [(0, 5), (1, 9)] {
+            let unit = vec![7; length];
+            let loaded = ends.sender.load(&settings, &mut ends.store, id, &unit);
+            assert_eq!(loaded, Ok(()));
+        }
+        let dropped = [false, true].map(|lost| {
+            if lost {
+                ends.sender.indexes = ends.sender.indexes.map(|index| index + 1);
+            }
+            ends.frame(&settings).unwrap().values()
+        });
+        assert_eq!(dropped, [[0; 4], [0, 0, 0, 8]]);
     }
 
     #[test]
@@ -382,7 +438,7 @@ mod tests {
         for _ in 0..500 {
             let body = random_run(&mut random);
             let answer = answer(&mut Reader::new(&body)).unwrap();
-            let delivered: u64 = answer.values.chunks(4).map(|step| step[1]).sum();
+            let delivered: u64 = answer.values.chunks(5).map(|step| step[1]).sum();
             delivering += usize::from(delivered > 0);
         }
         assert!(delivering > 350);

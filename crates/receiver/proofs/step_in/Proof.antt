@@ -12,7 +12,7 @@ use prog.Memory.{Memory}
 use prog.Routine.{Routine}
 use prog.Wp.{Heap, Calls, Loops, WpFn, Tables}
 use ghost.Atoms.{Atoms, sem}
-use contract.Monad.{Fun, fact}
+use contract.Monad.{Fun, fact, factI}
 use contract.Running.{givenOf, tables, tablesOf}
 use lib.ListN.{length}
 use types.Kit.{Given, ‵, raw, ⋆, feqL, use2, rewrite, _⊛_, some, later, _$_, _∵_, !, qed, by, move, keep, drop, use1, split, join, pick, fsplit, fsplit3, fjoin, fjoin3, feqI, suffices, frame, await, done}
@@ -31,7 +31,6 @@ use denote.Signature.{plain}
 use denote.Steps.{only, opens, closes, owned, peeks, heard, nothing}
 use denote.Struct.Steps.{spelt}
 use denote.Struct.Laws as LL
-use denote.Enum.Laws as EL
 use denote.Triple.Statement.{Contract, Triple}
 use denote.Triple.Call.{calls-at}
 use denote.Triple.Entry.{onEntry}
@@ -41,20 +40,21 @@ use denote.Triple.Walked.{Stays, stay-ref, stay-none, stay-none-slice, gave-slic
 use denote.Triple.Clauses.{ensured, lasts}
 use denote.Exit.{yes}
 use Rattle.receiver.specs.declared.Receiver.{Receiver}
-use Rattle.receiver.specs.declared.Answer.{Answer}
 use Rattle.receiver.specs.declared.Told.{Told}
-use Rattle.receiver.specs.Receiver.{stepFor, told, saidFor, bufferFor}
+use Rattle.receiver.specs.Receiver.{bufferFor}
+use Rattle.receiver.specs.Dropped.{toldFor, reported, reportFor}
 use Rattle.receiver.proofs.Receiver as T
 use Rattle.receiver.proofs.Receiver.Laws as T′
 use Rattle.receiver.proofs.Told as K
 use Rattle.receiver.proofs.Told.Laws as K′
-use Rattle.receiver.proofs.Answer as N
-use Rattle.receiver.proofs.Answer.Laws as N′
+use Rattle.receiver.proofs.Heard as N
+use Rattle.receiver.proofs.Heard.Laws as N′
 use Rattle.receiver.proofs.Receiver.step as step
 use Rattle.receiver.proofs.Receiver.step.Symbol as step-def
 use Rattle.receiver.proofs.Receiver.step.Symbol.{name as #step}
 use Rattle.receiver.proofs.Receiver.step.Met as step-thm
-use Rattle.receiver.proofs.Facts.{says-four}
+use Rattle.receiver.proofs.Facts.{fact-and, says-all}
+use Rattle.receiver.proofs.Steps.{heard-of, heard-is}
 use Rattle.receiver.proofs.step_in.Key.{name as #step-in}
 use Rattle.receiver.proofs.step_in as step-in
 use Rattle.receiver.proofs.step_in.Statement as stated
@@ -91,8 +91,8 @@ module _ {M : Type 1} (𝓤 : URA M) (H : Heap 𝓤) (A : Atoms 𝓤) (W : Given
   abbrev mach : Receiver → Val
   mach r = LL.val T.the-type T′.the-laws r
 
-  abbrev ans : Answer → Val
-  ans a = EL.val N.the-type N′.the-laws a
+  abbrev ans : Told → Val
+  ans t = LL.val N.the-type N′.the-laws (heard-of t)
 
   abbrev at : List Val × (List Val × (List Val × (List Val × Unit {0})))
   at = (vptr b o ∷ [], (vint w64 n ∷ [], (bv ∷ [], (sv ∷ [], tt))))
@@ -102,25 +102,25 @@ module _ {M : Type 1} (𝓤 : URA M) (H : Heap 𝓤) (A : Atoms 𝓤) (W : Given
 
   abbrev Said : Told → List ℕ → Type 0
   Said t zs =
-      (t ≡ stepFor n h (s .now) (length ys)) × ((told (t .answer) ≡ saidFor n h (s .now) (length ys)) × (zs ≡ bufferFor n h (s .now) ys))
+      (t ≡ toldFor n h (s .now) (length ys)) × ((reported (t .answer) (t .dropped) ≡ reportFor n h (s .now) (length ys)) × (zs ≡ bufferFor n h (s .now) ys))
 
   -- u is the record that was stored: the promise asks that it is the one that the step answers
-  exits : (t : Told) (u : Receiver) (zs : List ℕ) → Said t zs → u ≡ t .next → length zs ≡ length ys → n < 2 ^ 64 → Is N.the-row (t .answer) (ans (t .answer) ∷ [])
-      → ent 𝓤 (⋆ 𝓤 H A (‵ (fobs γ (T.the-row .coded .code u)) ∷ ‵ (fbor κ (Body (mem (T.the-row)) b o γ)) ∷ ‵ (flft κ q) ∷ (‵ (flft κ₁ q₁) ⊛ ‵ (flft κ₂ q₂) ⊛ ‵ ftrue) ∷ ‵ (finally u8 γ₂ zs) ∷ ‵ (ShrSlice (named 2) κ₂ u8 .own s (sv ∷ [])) ∷ [])) (Post (ans (t .answer)))
+  exits : (t : Told) (u : Receiver) (zs : List ℕ) → Said t zs → u ≡ t .next → length zs ≡ length ys → n < 2 ^ 64 → Is N.the-row (heard-of t) (ans t ∷ [])
+      → ent 𝓤 (⋆ 𝓤 H A (‵ (fobs γ (T.the-row .coded .code u)) ∷ ‵ (fbor κ (Body (mem (T.the-row)) b o γ)) ∷ ‵ (flft κ q) ∷ (‵ (flft κ₁ q₁) ⊛ ‵ (flft κ₂ q₂) ⊛ ‵ ftrue) ∷ ‵ (finally u8 γ₂ zs) ∷ ‵ (ShrSlice (named 2) κ₂ u8 .own s (sv ∷ [])) ∷ [])) (Post (ans t))
   exits t u zs e eu l fits ok =
       qed W (‵ (fobs γ (T.the-row .coded .code u)) ∷ ‵ (fbor κ (Body (mem (T.the-row)) b o γ)) ∷ ‵ (flft κ q) ∷ (‵ (flft κ₁ q₁) ⊛ ‵ (flft κ₂ q₂) ⊛ ‵ ftrue) ∷ ‵ (finally u8 γ₂ zs) ∷ ‵ (ShrSlice (named 2) κ₂ u8 .own s (sv ∷ [])) ∷ []) ∵
-      suffices ! _ (ends-at 𝓤 H A step-in.ended stayed (step-in.clauses 𝓤 H A at-mem run) W (((κ, (κ₁, (κ₂, tt))), (q, (q₁, (q₂, tt))), tt, x, at), tt) (ans (t .answer)) (t .answer) (u, (tt, (zs, (tt, tt)))) (tt, (tt, (l, (tt, tt))))) $
-      says-four ! (ap (λ (w : Told). w .answer) (e .0)) (e .1 .0) (eu ∙ ap (λ (w : Told). w .next) (e .0)) (e .1 .1) $
+      suffices ! _ (ends-at 𝓤 H A step-in.ended stayed (step-in.clauses 𝓤 H A at-mem run) W (((κ, (κ₁, (κ₂, tt))), (q, (q₁, (q₂, tt))), tt, x, at), tt) (ans t) (heard-of t) (u, (tt, (zs, (tt, tt)))) (tt, (tt, (l, (tt, tt))))) $
+      says-all ! (fact-and 𝓤 (heard-is n h (s .now) (length ys) t (e .0)) (fact-and 𝓤 (e .1 .0) (fact-and 𝓤 (eu ∙ ap (λ (w : Told). w .next) (e .0)) (factI 𝓤 _ (emp 𝓤) (e .1 .1))))) $
       move ! (2 ∷ 3 ∷ []) $ join ! $ frame ! $ feqI ! (List Val) (vptr b o ∷ []) (vptr b o ∷ []) refl $ fjoin3 ! $
       nothing ! $ move ! (3 ∷ 0 ∷ []) $ fjoin ! $ move ! (2 ∷ 0 ∷ []) $ fjoin ! $ owned ! usize (Is usize) (uint-makes 𝓤 H A W w64) n _ (refl, fits) $ fjoin ! $ move ! (1 ∷ 0 ∷ []) $ fjoin ! $
-      owned ! N.the-row (Is N.the-row) ((EL.makes N.the-type N′.the-plain) 𝓤 H A) (t .answer) _ ok $ move ! (1 ∷ 0 ∷ []) $ done !
+      owned ! N.the-row (Is N.the-row) ((LL.makes N.the-type N′.the-plain) 𝓤 H A) (heard-of t) _ ok $ move ! (1 ∷ 0 ∷ []) $ done !
 
   -- what whoever holds the result knows of its fields
-  ans-is : (t : Told) (v : Val) → Is K.the-row t (v ∷ []) → Is N.the-row (t .answer) (ans (t .answer) ∷ [])
-  ans-is t v is = LL.owed K.the-type K′.the-laws t _ is .0
+  ans-is : (t : Told) (v : Val) → Is K.the-row t (v ∷ []) → Is N.the-row (heard-of t) (ans t ∷ [])
+  ans-is t v is = let a = LL.owed K.the-type K′.the-laws t _ is in LL.owes N.the-type N′.the-laws (heard-of t) (a .0, (a .1 .0, tt))
 
   rec-is : (t : Told) (v : Val) → Is K.the-row t (v ∷ []) → Is T.the-row (t .next) (mach (t .next) ∷ [])
-  rec-is t v is = LL.owed K.the-type K′.the-laws t _ is .1 .0
+  rec-is t v is = LL.owed K.the-type K′.the-laws t _ is .1 .1 .0
 
   -- the p that the step is handed
   abbrev asked : ℕ
@@ -158,15 +158,15 @@ module _ {M : Type 1} (𝓤 : URA M) (H : Heap 𝓤) (A : Atoms 𝓤) (W : Given
         -- [what is asked; the shared slice; the cell; the open borrow; obs; auth; _7; …; _6; …; _5; …; _4; …; _3; …; _2; …; _1; …; room for _0; …]
         calls-at ! fm (Step 𝓤 H A at-mem run) known to-step (and-then ! (load ! (from ! (stop !)) (look ! 10 refl)) (and-then ! (load ! (from ! (stop !)) (look ! 18 refl)) (and-then ! (load ! (from ! (stop !)) (look ! 6 refl)) (and-then ! (load ! (from ! (stop !)) (look ! 14 refl)) (no-more !))))) (λ v.
         use1 W (later (some (λ (t : Told). ((‵ (flft κ₁ q₁) ⊛ ‵ (flft κ₂ q₂) ⊛ ‵ ftrue) ⊛ ‵ (K.the-row .own t (v ∷ []))) ⊛ raw (ensured 𝓤 H A step.ended (step.clauses 𝓤 H A at-mem run) (κ₁, (κ₂, tt)) (h, (asked, (buf, (s, tt)))) tt t)))) (id⊢ 𝓤 _) $ await ! tt $ pick ! (λ t.
-        split ! $ move ! (1 ∷ []) $ use1 W (some (λ (zs : Lasts). ‵ (lasts step.ended (κ₁, (κ₂, tt)) (h, (asked, (buf, (s, tt)))) zs) ⊛ (raw (fact 𝓤 (t ≡ stepFor asked h (s .now) (length ys))) ⊛ (raw (fact 𝓤 (told (t .answer) ≡ saidFor asked h (s .now) (length ys))) ⊛ raw (fact 𝓤 (zs .1 .1 .0 ≡ bufferFor asked h (s .now) ys)))))) (id⊢ 𝓤 _) $ pick ! (λ zs.
-        split ! $ move ! (1 ∷ []) $ split ! $ heard ! (t ≡ stepFor asked h (s .now) (length ys)) (λ e. split ! $ heard ! (told (t .answer) ≡ saidFor asked h (s .now) (length ys)) (λ e₁. heard ! (zs .1 .1 .0 ≡ bufferFor asked h (s .now) ys) (λ e₂. fsplit ! $ drop ! $ fsplit ! $ drop ! $ fsplit ! $ fsplit ! $ move ! (1 ∷ []) $ feqL ! (λ l.
+        split ! $ move ! (1 ∷ []) $ use1 W (some (λ (zs : Lasts). ‵ (lasts step.ended (κ₁, (κ₂, tt)) (h, (asked, (buf, (s, tt)))) zs) ⊛ (raw (fact 𝓤 (t ≡ toldFor asked h (s .now) (length ys))) ⊛ (raw (fact 𝓤 (reported (t .answer) (t .dropped) ≡ reportFor asked h (s .now) (length ys))) ⊛ raw (fact 𝓤 (zs .1 .1 .0 ≡ bufferFor asked h (s .now) ys)))))) (id⊢ 𝓤 _) $ pick ! (λ zs.
+        split ! $ move ! (1 ∷ []) $ split ! $ heard ! (t ≡ toldFor asked h (s .now) (length ys)) (λ e. split ! $ heard ! (reported (t .answer) (t .dropped) ≡ reportFor asked h (s .now) (length ys)) (λ e₁. heard ! (zs .1 .1 .0 ≡ bufferFor asked h (s .now) ys) (λ e₂. fsplit ! $ drop ! $ fsplit ! $ drop ! $ fsplit ! $ fsplit ! $ move ! (1 ∷ []) $ feqL ! (λ l.
         -- [the last list; true; the tokens and the result; the shared slice; the cell; …]
         move ! (2 ∷ []) $ split ! $ move ! (1 ∷ []) $ peeks ! K.the-row (Is K.the-row) (shows 𝓤 H A K.the-row) t (v ∷ []) (λ is.
         land ! (from ! (stop !)) (init ! 15 refl (LL.lawful K.the-type K′.the-laws 𝓤 H A W .typed t _ is .0)) $
-        -- the result is taken apart: its record is stored, and its answer is returned
+        -- the result is taken apart: its record is stored, and its answer is returned with the bytes dropped
         rewrite ! 15 (λ (u : Val). ‵ (fat fullShare K′.mir l₅ 0 u)) (ap only (LL.tells K.the-type K′.the-laws t (v ∷ []) is)) refl $
-        assigns ! (of-opd ! (load ! (from ! (fld ! refl (stop !))) (look-in ! 15 (sub ! 1 refl (whole !))))) (from ! (hop ! (look ! 23 refl) (stop !))) (store ! 5 refl (LL.lawful T.the-type T′.the-laws 𝓤 H A W .typed (t .next) _ (rec-is t v is) .0)) $
-        assigns ! (of-opd ! (load ! (from ! (fld ! refl (stop !))) (look-in ! 15 (sub ! 0 refl (whole !))))) (from ! (stop !)) (init ! 25 refl (EL.lawful N.the-type N′.the-laws 𝓤 H A W tt .typed (t .answer) _ (ans-is t v is) .0)) $
+        assigns ! (of-opd ! (load ! (from ! (fld ! refl (stop !))) (look-in ! 15 (sub ! 2 refl (whole !))))) (from ! (hop ! (look ! 23 refl) (stop !))) (store ! 5 refl (LL.lawful T.the-type T′.the-laws 𝓤 H A W .typed (t .next) _ (rec-is t v is) .0)) $
+        assigns ! (agg ! (and-then ! (load ! (from ! (fld ! refl (stop !))) (look-in ! 15 (sub ! 0 refl (whole !)))) (and-then ! (load ! (from ! (fld ! refl (stop !))) (look-in ! 15 (sub ! 1 refl (whole !)))) (no-more !)))) (from ! (stop !)) (init ! 25 refl (LL.lawful N.the-type N′.the-laws 𝓤 H A W .typed (heard-of t) _ (ans-is t v is) .0)) $
         drop ! $ owned ! (T.the-row) (Is (T.the-row)) ((LL.makes T.the-type T′.the-plain) 𝓤 H A) (t .next) _ (rec-is t v is) $
         move ! (5 ∷ []) $ use1 W (‵ (cellAt fullShare (T.the-row .mir) (mach (t .next) ∷ []) b o)) (W .laws .at-raw fullShare T′.mir b o (mach (t .next))) $
         move ! (0 ∷ 1 ∷ 6 ∷ 7 ∷ 8 ∷ []) $ closes ! tt (T.the-row) (t .next) (mach (t .next) ∷ []) b o $

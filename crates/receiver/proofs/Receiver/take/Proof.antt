@@ -43,17 +43,21 @@ add-answer-for c = search needs
 answer-for-requires : tie.Need-answer-for-requires
 answer-for-requires c κs = search needs
 
+dropped-requires : tie.Need-dropped-requires
+dropped-requires c κs = search needs
+
 same-length : tie.Need-same-length
 same-length c = search needs
 
 returns : tie.Need-returns
 returns c =
-    let k = c .before .before in
+    let x = c .before in
+    let k = x .before .before in
     let u = k .before .before .before in
     let a = u .before .before in
     let b = a .before in
     let g = b .before .before .before .before .before in
-    taken-is _ _ (g .args .useful .now) (g .args .buffer .now) _ _ (g .pre) (b .base .ensures .0) (a .adds .ensures) _ _ _ (u .put .ensures) (k .after .ensures) (c .answer-for .ensures)
+    taken-is _ _ (g .args .useful .now) (g .args .buffer .now) _ _ (g .pre) (b .base .ensures .0) (a .adds .ensures) _ _ _ _ (u .put .ensures) (k .after .ensures) (x .answer-for .ensures) (c .dropped .ensures)
 
 pub take-spec : {M : Type 1} → statement M
 take-spec =
@@ -72,5 +76,6 @@ take-spec =
     element-set-from-k
     add-answer-for
     answer-for-requires
+    dropped-requires
     same-length
     returns)
