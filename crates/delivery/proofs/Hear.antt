@@ -217,7 +217,7 @@ unit-other added j id n x f = refl
 unit-other dropped j id n x f = refl
 unit-other skipped j id n x f = refl
 
-id-in : (p : ℕ) (s : List ℕ) → decode p s .id < 4
+pub id-in : (p : ℕ) (s : List ℕ) → decode p s .id < 4
 unfolding decode
 id-in p s = omega arith
 

@@ -12,5 +12,7 @@ pub mod Left
 pub mod Filler
 pub mod Gap
 pub mod Soon
+pub mod Right
+pub mod Dropped
 pub mod Delivery
 pub mod Carried

@@ -80,11 +80,11 @@ module _ (p id : ℕ) where
       ∙ append-assoc (numbered id i (chunks p n b us)) (numbered id j (chunks p m c vs)) (k ∷ [])
       ∙ ap (λ (l : List Packet). numbered id i (chunks p n b us) ++ l) (sym (packets-more p id j m c vs))
 
-  record Apart (xs ys : List Packet) (i : ℕ) (b : Bool) (us : List (List ℕ)) : Type 0 where
-    first : xs ≡ numbered id i (chunks p (length xs) b us)
-    second : ys ≡ numbered id (indexAfter (length xs) i) (chunks p (length ys) (begunAfter p (length xs) b us) (rests p (length xs) us))
+  pub record Apart (xs ys : List Packet) (i : ℕ) (b : Bool) (us : List (List ℕ)) : Type 0 where
+    pub first : xs ≡ numbered id i (chunks p (length xs) b us)
+    pub second : ys ≡ numbered id (indexAfter (length xs) i) (chunks p (length ys) (begunAfter p (length xs) b us) (rests p (length xs) us))
 
-  apart : (xs ys : List Packet) (i n : ℕ) (b : Bool) (us : List (List ℕ)) → xs ++ ys ≡ numbered id i (chunks p n b us) → Apart xs ys i b us
+  pub apart : (xs ys : List Packet) (i n : ℕ) (b : Bool) (us : List (List ℕ)) → xs ++ ys ≡ numbered id i (chunks p n b us) → Apart xs ys i b us
   apart xs ys i n b us e =
       let x = length xs in
       let y = length ys in

@@ -18,15 +18,15 @@ use Rattle.delivery.specs.Whole.{wholes}
 use Rattle.delivery.specs.Flow.{Linked}
 
 -- a packet that is not null, of n bytes, and whose index is the next one
-record Fine (l : Line) (i : ℕ) (b t : Bool) (n : ℕ) : Type 0 where
-  index : l .link .heard ≡ true → l .link .index ≡ i
-  begun : l .link .begun ≡ b
-  size : l .link .len ≡ length (l .bytes)
-  none : b ≡ false → l .bytes ≡ []
-  real : nullOf (not b) t n ≡ false
-  fits : length (l .bytes) + n ≤ 4096
+pub record Fine (l : Line) (i : ℕ) (b t : Bool) (n : ℕ) : Type 0 where
+  pub index : l .link .heard ≡ true → l .link .index ≡ i
+  pub begun : l .link .begun ≡ b
+  pub size : l .link .len ≡ length (l .bytes)
+  pub none : b ≡ false → l .bytes ≡ []
+  pub real : nullOf (not b) t n ≡ false
+  pub fits : length (l .bytes) + n ≤ 4096
 
-kept-is : (o h b : Bool) (x i : ℕ) → (h ≡ true → x ≡ i) → o ≡ b → o && pick h (eqb i x) true ≡ b
+pub kept-is : (o h b : Bool) (x i : ℕ) → (h ≡ true → x ≡ i) → o ≡ b → o && pick h (eqb i x) true ≡ b
 kept-is false h b x i e f = f
 kept-is true true b x i e f = eq-eqb i x (sym (e refl)) ∙ f
 kept-is true false b x i e f = f
@@ -43,7 +43,7 @@ null-more true n = refl
 null-more false n = refl
 
 module _ (l : Line) (i : ℕ) (t : Bool) where
-  adds-is : (b : Bool) (n : ℕ) → Fine l i b t n → adds (l .link) i (not b) t n ≡ true
+  pub adds-is : (b : Bool) (n : ℕ) → Fine l i b t n → adds (l .link) i (not b) t n ≡ true
   unfolding adds joins kept baseOf
   adds-is true n g =
       rw (g .real, kept-is (l .link .begun) (l .link .heard) true (l .link .index) i (g .index) (g .begun))
@@ -92,7 +92,7 @@ pub record Passed (p : ℕ) (us : List (List ℕ)) (b : Bool) (i : ℕ) (l : Lin
   pub same : unitsBy l i (chunkOf p b us) ++ wholes (lineAfter l i (chunkOf p b us)) (restOf p us) ≡ wholes l us
 
 module _ (p : ℕ) (u : List ℕ) (us : List (List ℕ)) (b : Bool) (i : ℕ) (l : Line) (k : Linked (u ∷ us) b i l) where
-  fine-of : (t : Bool) → nullOf (not b) t (length (take p u)) ≡ false → Fine l i b t (length (take p u))
+  pub fine-of : (t : Bool) → nullOf (not b) t (length (take p u)) ≡ false → Fine l i b t (length (take p u))
   unfolding wholes
   fine-of t z =
       record {

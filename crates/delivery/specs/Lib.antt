@@ -2,5 +2,6 @@ pub mod Delivered
 pub mod Whole
 pub mod Loss
 pub mod Delivery
+pub mod Dropped
 pub mod Lines
 pub mod Flow

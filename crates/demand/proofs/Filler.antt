@@ -29,7 +29,7 @@ use Rattle.demand.proofs.Packets.{of-append, numbered-append, numbered-
 use Rattle.demand.proofs.Rows.{chunkAt, rowChunks, frame-filler}
 
 -- ---- lists of one thing
-same-more : (n : ℕ) (c : Chunk) → replicate n c ++ (c ∷ []) ≡ replicate (suc n) c
+pub same-more : (n : ℕ) (c : Chunk) → replicate n c ++ (c ∷ []) ≡ replicate (suc n) c
 same-more zero c = refl
 same-more (suc n) c = ap (λ (l : List Chunk). c ∷ l) (same-more n c)
 
