@@ -1,6 +1,7 @@
 #!/bin/sh
 # demo.sh [NAME=NUMBER ..]: the main job. First the worked example of ES 201 980, annex C: its description cuts a frame of 1,200 bytes.
-# Then the night with two two-o'clocks; arguments are what is other than in the usual night (a wrong one makes it list the names).
+# Then the night with two two-o'clocks; arguments are what is other than in the usual night (a wrong one makes it list the names). At the
+# end stand the last lines of the same night with packets lost on the way, unless an argument says itself how many are.
 # The two programs and what they stand on are proved first, where they are not yet; meanwhile it shows how far that is.
 set -eu
 ROOT=$(cd "$(dirname "$0")/.." && pwd -P)
@@ -68,3 +69,13 @@ printf '\004\260\001\000\004\121\003\260\000\001\060\000' | run_program layout
 echo
 # shellcheck disable=SC2086
 run_program night $numbers
+case " $*" in
+*' '[Ll][Oo][Ss][Ee]=*) ;;
+*)
+    numbers=$(WISHES="$* lose=50" awk -f scripts/night.awk crates/night/args)
+    # a night that cannot be run has no such lines
+    # shellcheck disable=SC2086
+    rows=$(run_program night $numbers | sed -n '/^packets lost/,$p')
+    [ -z "$rows" ] || printf '\nThe same night, each 50th packet lost on the way:\n%s\n' "$rows"
+    ;;
+esac

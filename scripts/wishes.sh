@@ -23,7 +23,9 @@ line() {
 [ "$(echo "$usual" | wc -l)" -eq "$(line NUMBERS -1)" ] || fail "the usual night has not as many numbers as the program reads"
 while read -r name constant offset; do
     at=$(line "$constant" "$offset")
-    [ "$(numbers "$name=999999")" = "$(echo "$usual" | sed "${at}s/.*/999999/")" ] || fail "$name does not change number $at alone"
+    for wish in "$name" "$(echo "$name" | tr '[:lower:]' '[:upper:]')"; do
+        [ "$(numbers "$wish=999999")" = "$(echo "$usual" | sed "${at}s/.*/999999/")" ] || fail "$wish does not change number $at alone"
+    done
 done <<END
 p P 0
 n N 0
@@ -39,6 +41,7 @@ station SIZE 2
 every EVERY 0
 files FILES 0
 frames FRAMES 0
+lose LOSE 0
 END
 for wish in q=1 p p= =1 p=-1 p=1x p=1000000 p==1 'n=3 q=1'; do
     ! numbers "$wish" >/dev/null || fail "$wish is taken"

@@ -1,5 +1,6 @@
 // The sending side of the night: what is due is loaded, the sender makes a frame, and the table gets its lines.
 use crate::fit;
+use hand::Three;
 use night_plan::SLOTS;
 use sender::Sender;
 
@@ -62,9 +63,23 @@ pub(crate) fn send(n: Sent, store: &mut [u8], out: &mut [u8]) -> Sent {
     Sent { s, book }
 }
 
-// The end of a frame, with the packets that wait now.
+// The units of each queue that are not wholly sent.
+fn unfinished(s: Sender) -> Three {
+    let f = s.front;
+    let a = f.q[0];
+    let b = f.q[1];
+    let c = f.q[2];
+    Three {
+        a: a.count,
+        b: b.count,
+        c: c.count,
+    }
+}
+
+// The end of a frame, with the units that are not wholly sent and the packets that wait now.
 pub(crate) fn end(s: Sender, book: [usize; SLOTS]) -> Sent {
     let p = book[night_plan::P];
+    let book = night_book::settle(book, unfinished(s));
     let book = night_book::end_frame(book, waiting(s, 0, p), waiting(s, 1, p), waiting(s, 2, p));
     Sent { s, book }
 }

@@ -10,38 +10,52 @@ pub use table::head;
 pub use table::refuse;
 
 // the frame that is made, counted from 1
-pub const FRAME: usize = 14;
+pub const FRAME: usize = 15;
 
-// units loaded; the frame before which one was last refused; units delivered, with those of filler's id, of which there are none
-pub const LOADED: usize = 15;
+// units loaded; the frame before which one was last refused; units delivered
+pub const LOADED: usize = 16;
 
-pub const REFUSED: usize = 18;
+pub const REFUSED: usize = 19;
 
-pub const DELIVERED: usize = 21;
+pub const DELIVERED: usize = 22;
+
+// the first unit that may still come: those before it came or are lost
+pub const NEXT: usize = 25;
 
 // refusals for want of room, and behind it units that came back changed
-pub const NO_ROOM: usize = 25;
+pub const NO_ROOM: usize = 28;
 
-pub const CHANGED: usize = 26;
+pub const CHANGED: usize = 29;
 
-// what a line shows, in its order: packets of each queue and filler since the last line; packets that wait; the bar of the last frame
-pub const SUM: usize = 27;
+// packets of the stream so far, filler among them
+pub const PASSED: usize = 30;
 
-pub const WAITING: usize = 31;
+// what a line shows, in its order: packets of each queue and filler since the last line; packets that wait; bytes dropped since the last
+// line; the bar of the last frame
+pub const SUM: usize = 31;
 
-pub const BAR: usize = 34;
+pub const WAITING: usize = 35;
+
+pub const DROPPED: usize = 38;
+
+pub const BAR: usize = 39;
+
+// bytes dropped in all of the night
+pub const DROPPED_ALL: usize = 43;
 
 // of the news pages: those that came late, the longest wait and its promise
-pub const LATE: usize = 38;
+pub const LATE: usize = 44;
 
-pub const LONGEST: usize = 39;
+pub const LONGEST: usize = 45;
 
-pub const PROMISE: usize = 40;
+pub const PROMISE: usize = 46;
 
-// by the page's number modulo 8, since at most eight are unfinished: the frame before which it was loaded, and the frames promised
-pub const SINCE: usize = 41;
+// by the page's number modulo 8: the frame before which it was loaded, and the frames promised. Page k + 8 is loaded only when page k is
+// wholly sent, since at most eight are unfinished; and a page comes in the frame in which it is wholly sent, or never. So losses make no
+// page late, and its two numbers still stand here when it comes.
+pub const SINCE: usize = 47;
 
-pub const BOUND: usize = 49;
+pub const BOUND: usize = 55;
 
 // Packets of a queue, or filler, in a frame: counted, and as so many characters of the bar.
 fn count_one(book: [usize; SLOTS], id: usize, n: usize) -> [usize; SLOTS] {
@@ -82,6 +96,7 @@ pub fn end_frame(book: [usize; SLOTS], a: usize, b: usize, c: usize) -> [usize; 
     next[SUM + 1] = 0;
     next[SUM + 2] = 0;
     next[SUM + 3] = 0;
+    next[DROPPED] = 0;
     next
 }
 
@@ -129,17 +144,52 @@ fn close_page(book: [usize; SLOTS], k: usize) -> [usize; SLOTS] {
     b
 }
 
-// A unit of a queue came out of the receiver: it is as it was loaded, or not; a news page is shown, with its wait.
+// Which unit of a queue these bytes are, of those that may still come; where they are none of them, as many as are loaded. Only map files
+// can be two with the same bytes: then it is the earlier.
+fn find(book: [usize; SLOTS], id: usize, unit: &[u8]) -> usize {
+    let loaded = book[LOADED + id % 3];
+    let mut left = std::num::wrapping_sub_usize(loaded, book[NEXT + id % 3]);
+    while 0 < left {
+        let k = std::num::wrapping_sub_usize(loaded, left);
+        if night_plan::is_unit(book, id, k, unit) {
+            return k;
+        }
+        left -= 1;
+    }
+    loaded
+}
+
+// A unit of a queue came out of the receiver: it is one of those loaded, or it was changed on the way, as only eight packets of an id lost in
+// a row could do it, which the receiver cannot see. A news page is shown, with its wait.
 pub fn deliver(book: [usize; SLOTS], id: usize, unit: &[u8]) -> [usize; SLOTS] {
     let mut b = book;
-    let i = id % 4;
-    let k = b[DELIVERED + i];
-    b[DELIVERED + i] = list::plus(k, 1);
-    if !night_plan::is_unit(b, id, k, unit) {
+    let i = id % 3;
+    b[DELIVERED + i] = list::plus(b[DELIVERED + i], 1);
+    let k = find(b, id, unit);
+    if b[LOADED + i] <= k {
         b[CHANGED] = list::plus(b[CHANGED], 1);
+        return b;
     }
+    b[NEXT + i] = list::plus(k, 1);
     if id == night_plan::NEWS {
         return close_page(b, k);
     }
+    b
+}
+
+// All packets of a frame have gone, and so many units of each queue are not wholly sent: only these, and those loaded later, may still come.
+pub fn settle(book: [usize; SLOTS], unfinished: Three) -> [usize; SLOTS] {
+    let mut b = book;
+    b[NEXT] = std::num::wrapping_sub_usize(b[LOADED], unfinished.a);
+    b[NEXT + 1] = std::num::wrapping_sub_usize(b[LOADED + 1], unfinished.b);
+    b[NEXT + 2] = std::num::wrapping_sub_usize(b[LOADED + 2], unfinished.c);
+    b
+}
+
+// The receiver dropped so many bytes of an open unit.
+pub fn drop_bytes(book: [usize; SLOTS], n: usize) -> [usize; SLOTS] {
+    let mut b = book;
+    b[DROPPED] = list::plus(b[DROPPED], n);
+    b[DROPPED_ALL] = list::plus(b[DROPPED_ALL], n);
     b
 }

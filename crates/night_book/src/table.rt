@@ -7,7 +7,7 @@ use night_plan::text;
 const LINES: usize = 20;
 
 // The characters of a bar; rounding adds three at most.
-const BAR: usize = 18;
+const BAR: usize = 12;
 
 // Minutes of an hour by the wall clock.
 fn minute(frame: usize, hour: usize) -> usize {
@@ -94,7 +94,7 @@ pub(crate) fn is_line_due(book: [usize; SLOTS]) -> bool {
 pub(crate) fn line(book: [usize; SLOTS]) {
     stamp(book);
     text::say(
-        b"\x06\x06\x06\x06  \x05\x05\x05   \xb0\xb1\xb2\xae\n",
+        b"\x06\x06\x06\x06 \x05\x05\x05\x08  \xb0\xb1\xb2\xae\n",
         &book,
         crate::SUM,
     );
@@ -139,9 +139,39 @@ the \x01 map files starts at two o'clock, and so it starts twice.
     }
     text::write(
         b"
-                 packets sent of queue  packets waiting   the last frame,
-frame  time        0     1     2  fill      0    1    2   packet by packet
+                packets sent of queue  packets waiting   bytes  the last frame,
+frame  time        0     1     2  fill     0    1    2 dropped  packet by packet
 ",
+    );
+}
+
+// The packets that did not reach the receiver.
+fn lost_packets(book: [usize; SLOTS]) -> usize {
+    let each = book[night_plan::LOSE];
+    if each == 0 {
+        return 0;
+    }
+    book[crate::PASSED] / each
+}
+
+// The sum of a number that each queue has.
+fn sum(book: [usize; SLOTS], at: usize) -> usize {
+    let a = list::at(&book, at);
+    let b = list::at(&book, list::plus(at, 1));
+    let c = list::at(&book, list::plus(at, 2));
+    list::plus(list::plus(a, b), c)
+}
+
+// What did not come through, and what the receiver dropped of it. A unit is lost that was wholly sent and did not come out of the receiver;
+// one that is not wholly sent when the night ends is none of these, whatever it has lost so far.
+fn losses(book: [usize; SLOTS]) {
+    let units = std::num::wrapping_sub_usize(sum(book, crate::NEXT), sum(book, crate::DELIVERED));
+    text::say(
+        b"packets lost on the way: \x01, units lost with them: \x01
+bytes dropped by the receiver: \x01
+",
+        &[lost_packets(book), units, book[crate::DROPPED_ALL]],
+        0,
     );
 }
 
@@ -174,5 +204,6 @@ units that came back changed: \x01
         &book,
         crate::NO_ROOM,
     );
+    losses(book);
     pages(book);
 }

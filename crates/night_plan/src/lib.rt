@@ -29,10 +29,13 @@ pub const FILES: usize = 12;
 // frames of the night
 pub const FRAMES: usize = 13;
 
-pub const NUMBERS: usize = 14;
+// packets LOSE, 2 LOSE, 3 LOSE and so on of the stream, counted with filler, do not reach the receiver; 0: all do
+pub const LOSE: usize = 14;
+
+pub const NUMBERS: usize = 15;
 
 // all numbers of the night
-pub const SLOTS: usize = 57;
+pub const SLOTS: usize = 63;
 
 // The queues, by id.
 pub const NEWS: usize = 0;
