@@ -90,7 +90,8 @@ next-none p (u ∷ us) b i l k = go (leb (length u) p) refl
     go : (t : Bool) → leb (length u) p ≡ t → NoneLost (l .link) i (not b) (leb (length u) p) (length (take p u))
     go true e =
         let h : length u ≤ p = leb-true _ _ e in
-        rw e (added-none l i b true (length (take p u)) (fine-of p u us b i l k true (null-some (not b) true (length (take p u)) (omega (arith, length-take p u, k .some .0)))))
+        let n = length (take p u) in
+        rw e (added-none l i b true n (fine-of p u us b i l k true (null-some (not b) true n (omega (arith, length-take p u, k .some .0)))))
     go false e = rw e (added-none l i b false (length (take p u)) (fine-of p u us b i l k false (null-more (not b) (length (take p u)))))
 
 -- ---- filler: the packets of a queue that has no unit
@@ -106,7 +107,8 @@ nulls p (suc n) =
     ap₂ (λ (cs : List Chunk) (us : List (List ℕ)). cs ++ (chunkOf p (begunAfter p n false []) us ∷ [])) (nulls p n) (rests-none p n) ∙ same-more n nothing
 
 -- ---- packet x, given behind those before it
-module _ (p : ℕ) (es : List Event) (buffer : List ℕ) (s : Stream p es) (hb : length buffer ≡ 16384) (before behind : List (List ℕ)) (x : List ℕ) (q : sentOf es ≡ before ++ (x ∷ behind)) where
+module _ (p : ℕ) (es : List Event) (buffer : List ℕ) (s : Stream p es) (hb : length buffer ≡ 16384) (before behind : List (List ℕ)) (x : List ℕ)
+    (q : sentOf es ≡ before ++ (x ∷ behind)) where
   abbrev e : Ear
   e = hearAll p (freshEar buffer) before
 
@@ -180,8 +182,8 @@ module _ (p : ℕ) (es : List Event) (buffer : List ℕ) (s : Stream p es) (hb :
       record { accepted = step-is ∙ z; dropped = rw (step-is, z) (w .dropped); skipped = rw (step-is, z) (w .skipped) }
 
 -- of every run from the fresh state in which p stands
-pub all-kept : (p : ℕ) (acts : List Act) (store : List ℕ) → length store ≡ 12288 → Stands p (log acts (freshDesk store)) → (buffer : List ℕ) → length buffer ≡ 16384
-    → AllKept p (log acts (freshDesk store)) buffer
+pub all-kept : (p : ℕ) (acts : List Act) (store : List ℕ) → length store ≡ 12288 → Stands p (log acts (freshDesk store))
+    → (buffer : List ℕ) → length buffer ≡ 16384 → AllKept p (log acts (freshDesk store)) buffer
 all-kept p acts store hs st buffer hb before behind x q =
     let E = log acts (freshDesk store) in
     kept-by p E buffer (stream p acts store hs st) hb before behind x q
