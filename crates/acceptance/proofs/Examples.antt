@@ -9,7 +9,7 @@ use Rattle.description.specs.Bytes.{lengthBytes, streamBytes, valueOf, entityOf
 use Rattle.places.specs.Parts.{lengthsIn, usedBy, paddingOf, layoutTests, layoutFor}
 use Rattle.description.specs.WellFormed.{tooLarge, illFormed}
 use Rattle.dispersal.specs.Dispersal as dispersal
-use Rattle.hand.specs.Hand.{give, free, giveFirst, giveOne, spread, handOut, planFor, handFor}
+use Rattle.hand.specs.Hand.{give, free, givenTo, firstFree, taker, giveOne, takers, spread, handOut, planFor, handFor}
 use Rattle.hand.specs.Settings.{unfit, settingsTests, settingsFor}
 use Rattle.acceptance.specs.Examples.{Hold, examples}
 
@@ -23,5 +23,5 @@ unfolding examples
     dispersal.outputFor dispersal.numberFor dispersal.testsFor dispersal.dispersed dispersal.dispersedFrom dispersal.next dispersal.push
     stamps.outputFor stamps.encodeNumber stamps.encodeTests stamps.fieldTests stamps.stampBytes stamps.bitsOf stamps.stamped
     elapsed later nextTests nextFor
-    give free giveFirst giveOne spread handOut planFor handFor unfit settingsTests settingsFor
+    give free givenTo firstFree taker giveOne takers spread handOut planFor handFor unfit settingsTests settingsFor
 examples-hold = (refl, (refl, (refl, (refl, (refl, (refl, (refl, (refl, (refl, (refl, (refl, (refl, (refl, tt)))))))))))))

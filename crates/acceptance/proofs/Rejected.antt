@@ -7,7 +7,7 @@ use lib.ListN.{getD, replicate}
 use Rattle.laws.specs.Big.{bytesOf}
 use Rattle.laws.specs.Written.{written}
 use Rattle.dispersal.specs.Dispersal as dispersal
-use Rattle.hand.specs.Hand.{give, free, giveFirst, giveOne, spread, handOut, planFor, handFor}
+use Rattle.hand.specs.Hand.{give, free, givenTo, firstFree, taker, giveOne, takers, spread, handOut, planFor, handFor}
 use Rattle.hand.specs.Settings.{unfit, settingsTests, settingsFor}
 use Rattle.hand.specs.declared.Settings.{Settings}
 use Rattle.hand.specs.declared.Three.{Three}
@@ -82,7 +82,7 @@ two-frames : (frames.frameFor small (busy .front) store frame .number ≡ 0) × 
 unfolding frames.frameFor frames.frameNumber frames.frameTests frames.framed frames.frameOut frames.frameBytes frames.framePackets frames.rowAt frames.nulls
     frames.handOf frames.endsOf frames.nextFrom frames.storeAfter frames.closedAll frames.closed pulled states.fresh
     settingsFor settingsTests unfit brokenState broken anyEmpty anyOver lengths unsent addUp waitingOf waiting waits packets
-    give free giveFirst giveOne spread handOut planFor handFor written steps outs stepped packetAt headLen popped dropFirst
+    give free givenTo firstFree taker giveOne takers spread handOut planFor handFor written steps outs stepped packetAt headLen popped dropFirst
     encode plainOf headOf dataOf sealed bytesOf decode
 two-frames = (refl, refl, refl, refl)
 

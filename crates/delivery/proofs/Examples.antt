@@ -8,7 +8,7 @@ use Rattle.laws.specs.Big.{bytesOf, bigOf, numberAt}
 use Rattle.laws.specs.Written.{written}
 use Rattle.crc.specs.Crc.{shift, feed, bitsOf, bitsOfAll, crcOf}
 use Rattle.hand.specs.Settings.{unfit, settingsTests, settingsFor}
-use Rattle.hand.specs.Hand.{give, free, giveFirst, giveOne, spread, handOut, taker, takers, countOf, spareIds, planFor, handFor}
+use Rattle.hand.specs.Hand.{give, free, givenTo, firstFree, taker, giveOne, takers, spread, handOut, planFor, handFor}
 use Rattle.hand.specs.declared.Settings.{Settings}
 use Rattle.packet.specs.Packet.{packetOf, headOf, padded, dataOf, plainOf, sealed, encode, bodyOf, decode}
 use Rattle.packet.specs.Calls.{wrongWord, wrongCount, testsFor, checkFor}
@@ -37,16 +37,16 @@ three =
 
 -- two packets of id 1 and a null packet
 pub packets-sent : sentOf (log acts (freshDesk (replicate 12288 0))) ≡ three
-unfolding written bytesOf shift feed bitsOf bitsOfAll crcOf unfit settingsTests settingsFor give free giveFirst giveOne spread handOut taker takers countOf spareIds planFor handFor headOf dataOf plainOf sealed encode addUp packets unsent waits waiting lengths anyEmpty anyOver broken pushed headLen dropFirst popped packetAt stepped steps outs fresh brokenState putQueue waitingOf full loadTests loadNumber loaded placedIn loadFor storeFor handOf rowAt nulls framePackets frameTests frameNumber frameBytes frameFor framed frameOut after split answer answers events gather packetsOf
+unfolding written bytesOf shift feed bitsOf bitsOfAll crcOf unfit settingsTests settingsFor give free givenTo firstFree taker giveOne takers spread handOut planFor handFor headOf dataOf plainOf sealed encode addUp packets unsent waits waiting lengths anyEmpty anyOver broken pushed headLen dropFirst popped packetAt stepped steps outs fresh brokenState putQueue waitingOf full loadTests loadNumber loaded placedIn loadFor storeFor handOf rowAt nulls framePackets frameTests frameNumber frameBytes frameFor framed frameOut after split answer answers events gather packetsOf
 packets-sent = refl
 
 -- seen from outside: behind the load two packets wait, and behind the frame none
 pub two-wait : waitingAt 4 1 (log (load settings 1 (1 ∷ 2 ∷ 3 ∷ 4 ∷ 5 ∷ 6 ∷ []) ∷ []) (freshDesk (replicate 12288 0))) ≡ 2
-unfolding written bytesOf shift feed bitsOf bitsOfAll crcOf unfit settingsTests settingsFor give free giveFirst giveOne spread handOut taker takers countOf spareIds planFor handFor headOf dataOf plainOf sealed encode addUp packets unsent waiting lengths anyEmpty anyOver broken pushed headLen dropFirst popped packetAt stepped steps outs fresh brokenState putQueue waitingOf full loadTests loadNumber loaded placedIn loadFor storeFor handOf rowAt nulls framePackets frameTests frameNumber frameBytes frameFor framed frameOut after split answer answers events gather packetsOf unitFor readable own leftOf rests waits waitingAt
+unfolding written bytesOf shift feed bitsOf bitsOfAll crcOf unfit settingsTests settingsFor give free givenTo firstFree taker giveOne takers spread handOut planFor handFor headOf dataOf plainOf sealed encode addUp packets unsent waiting lengths anyEmpty anyOver broken pushed headLen dropFirst popped packetAt stepped steps outs fresh brokenState putQueue waitingOf full loadTests loadNumber loaded placedIn loadFor storeFor handOf rowAt nulls framePackets frameTests frameNumber frameBytes frameFor framed frameOut after split answer answers events gather packetsOf unitFor readable own leftOf rests waits waitingAt
 two-wait = refl
 
 pub none-wait : waitingAt 4 1 (log acts (freshDesk (replicate 12288 0))) ≡ 0
-unfolding written bytesOf shift feed bitsOf bitsOfAll crcOf unfit settingsTests settingsFor give free giveFirst giveOne spread handOut taker takers countOf spareIds planFor handFor headOf dataOf plainOf sealed encode addUp packets unsent waiting lengths anyEmpty anyOver broken pushed headLen dropFirst popped packetAt stepped steps outs fresh brokenState putQueue waitingOf full loadTests loadNumber loaded placedIn loadFor storeFor handOf rowAt nulls framePackets frameTests frameNumber frameBytes frameFor framed frameOut after split answer answers events gather packetsOf unitFor readable own leftOf restOf rests waits waitingAt bigOf numberAt padded bodyOf decode wrongWord wrongCount testsFor checkFor
+unfolding written bytesOf shift feed bitsOf bitsOfAll crcOf unfit settingsTests settingsFor give free givenTo firstFree taker giveOne takers spread handOut planFor handFor headOf dataOf plainOf sealed encode addUp packets unsent waiting lengths anyEmpty anyOver broken pushed headLen dropFirst popped packetAt stepped steps outs fresh brokenState putQueue waitingOf full loadTests loadNumber loaded placedIn loadFor storeFor handOf rowAt nulls framePackets frameTests frameNumber frameBytes frameFor framed frameOut after split answer answers events gather packetsOf unitFor readable own leftOf restOf rests waits waitingAt bigOf numberAt padded bodyOf decode wrongWord wrongCount testsFor checkFor
 none-wait = refl
 
 -- and the unit again

@@ -42,16 +42,16 @@ module _ (p : ℕ) (es : List Event) (y : Desk) (m : Mirror p es y) (g : Setting
   counts id = length (ofId (g .p) id (split (g .p + 3) (g .n) (answer (frame g out) y .out)))
 
   share-in : (id : ℕ) → id < 3 → min (at (g .share) id) (waitingAt p id es) ≤ counts id
-  share-in id h = omega (arith, served-here g y good (frame-allowed g out y good z) .share id, waits-in id h, carried g out y good z id h)
+  share-in id h = omega (arith, served-here g y good (frame-allowed g out y z) .share id, waits-in id h, carried g out y good z id h)
 
   ceiling-in : (id : ℕ) → id < 3 → counts id ≤ at (g .ceiling) id
-  ceiling-in id h = omega (arith, served-here g y good (frame-allowed g out y good z) .ceiling id, carried g out y good z id h)
+  ceiling-in id h = omega (arith, served-here g y good (frame-allowed g out y z) .ceiling id, carried g out y good z id h)
 
   filler-in : 1 ≤ counts 3 → (id : ℕ) → id < 3 → counts id ≡ min (waitingAt p id es) (at (g .ceiling) id)
   filler-in f id h =
       let s : total (handOf g (y .state) .packets) < g .n = omega (arith, frame-sum g out y good z, carried-filler g out y good z) in
       carried g out y good z id h
-      ∙ served-here g y good (frame-allowed g out y good z) .filler s id
+      ∙ served-here g y good (frame-allowed g out y z) .filler s id
       ∙ ap (λ (w : ℕ). min w (at (g .ceiling) id)) (waits-in id h)
 
 -- ---- a unit that was accepted

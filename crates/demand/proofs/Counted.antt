@@ -29,30 +29,11 @@ spares-are : (g : Settings) (w : Three) (turn : ℕ) → Allowed g → handFor g
 unfolding handFor
 spares-are g w turn al = let c = steps-counted g w turn al .all in simp (allowed-back g al) (omega arith)
 
-module _ (g : Settings) (out : List ℕ) (y : Desk) (k : Good (g .p) y) (z : numberOf (frame g out) y ≡ 0) where
-  abbrev out′ : List ℕ
-  out′ = answer (frame g out) y .out
-
+-- ---- from any desk
+module _ (g : Settings) (out : List ℕ) (y : Desk) (z : numberOf (frame g out) y ≡ 0) where
   pub frame-allowed : Allowed g
   unfolding numberOf frameNumber
   frame-allowed = allowed g (fit-of g (y .state) (length (y .store)) (length out) z .allowed-in)
-
-  -- the output
-  out-is : out′ ≡ frameBytes g (y .state) (y .store) ++ drop (0 + length (frameBytes g (y .state) (y .store))) out
-  unfolding answer frameOut numberOf written
-  out-is =
-      ap (λ (b : Bool). pick b (written out 0 (frameBytes g (y .state) (y .store))) out) (eq-eqb (frameNumber g (y .state) (y .store) out) 0 z)
-
-  pub carried : (id : ℕ) → id < 3 → length (ofId (g .p) id (split (g .p + 3) (g .n) out′)) ≡ at (handOf g (y .state) .packets) id
-  carried id h = ap (λ (s : List ℕ). length (ofId (g .p) id (split (g .p + 3) (g .n) s))) out-is ∙ counted g y k frame-allowed _ id h
-
-  pub carried-filler : length (ofId (g .p) 3 (split (g .p + 3) (g .n) out′)) ≡ handOf g (y .state) .filler
-  carried-filler = ap (λ (s : List ℕ). length (ofId (g .p) 3 (split (g .p + 3) (g .n) s))) out-is ∙ counted-filler g y k frame-allowed _
-
-  -- packets and filler are the frame
-  pub frame-sum : total (handOf g (y .state) .packets) + handOf g (y .state) .filler ≡ g .n
-  unfolding handOf
-  frame-sum = hand-total g (waitingOf (g .p) (y .state)) (y .state .turn) frame-allowed
 
   -- what it reports
   pub reported : (answer (frame g out) y .packets ≡ handOf g (y .state) .packets) × (answer (frame g out) y .filler ≡ handOf g (y .state) .filler)
@@ -72,3 +53,25 @@ module _ (g : Settings) (out : List ℕ) (y : Desk) (k : Good (g .p) y) (z : num
   pub spares-reported : answer (frame g out) y .spares ≡ length (spareIds g (waitingOf (g .p) (y .state)) (y .state .turn))
   unfolding handOf
   spares-reported = reported .2 ∙ spares-are g (waitingOf (g .p) (y .state)) (y .state .turn) frame-allowed
+
+-- ---- from a desk of a run
+module _ (g : Settings) (out : List ℕ) (y : Desk) (k : Good (g .p) y) (z : numberOf (frame g out) y ≡ 0) where
+  abbrev out′ : List ℕ
+  out′ = answer (frame g out) y .out
+
+  -- the output
+  out-is : out′ ≡ frameBytes g (y .state) (y .store) ++ drop (0 + length (frameBytes g (y .state) (y .store))) out
+  unfolding answer frameOut numberOf written
+  out-is =
+      ap (λ (b : Bool). pick b (written out 0 (frameBytes g (y .state) (y .store))) out) (eq-eqb (frameNumber g (y .state) (y .store) out) 0 z)
+
+  pub carried : (id : ℕ) → id < 3 → length (ofId (g .p) id (split (g .p + 3) (g .n) out′)) ≡ at (handOf g (y .state) .packets) id
+  carried id h = ap (λ (s : List ℕ). length (ofId (g .p) id (split (g .p + 3) (g .n) s))) out-is ∙ counted g y k (frame-allowed g out y z) _ id h
+
+  pub carried-filler : length (ofId (g .p) 3 (split (g .p + 3) (g .n) out′)) ≡ handOf g (y .state) .filler
+  carried-filler = ap (λ (s : List ℕ). length (ofId (g .p) 3 (split (g .p + 3) (g .n) s))) out-is ∙ counted-filler g y k (frame-allowed g out y z) _
+
+  -- packets and filler are the frame
+  pub frame-sum : total (handOf g (y .state) .packets) + handOf g (y .state) .filler ≡ g .n
+  unfolding handOf
+  frame-sum = hand-total g (waitingOf (g .p) (y .state)) (y .state .turn) (frame-allowed g out y z)

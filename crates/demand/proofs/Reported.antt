@@ -65,24 +65,24 @@ module _ (p : ℕ) (acts : List Act) (store : List ℕ) (hs : length store ≡ 1
         let got = handOf (f .g) (y .state) .packets in
         let e : got ≡ holds f = three-is got _ _ _ (sym (counts 0 (lit< tt))) (sym (counts 1 (lit< tt))) (sym (counts 2 (lit< tt))) in
         subst (λ (w : Three). Served (f .g .n) w (f .g .share) (f .g .ceiling) (holds f)) waits
-        (subst (Served (f .g .n) (waitingOf (f .g .p) (y .state)) (f .g .share) (f .g .ceiling)) e (served-here (f .g) y good (frame-allowed (f .g) (f .lent) y good done)))
+        (subst (Served (f .g .n) (waitingOf (f .g .p) (y .state)) (f .g .share) (f .g .ceiling)) e (served-here (f .g) y good (frame-allowed (f .g) (f .lent) y done)))
 
     packets-told : (id : ℕ) → id < 3 → at (f .answer .packets) id ≡ carries f id
-    packets-told id h = ap (λ (b : Answer). at (b .packets) id) is ∙ ap (λ (t : Three). at t id) (reported (f .g) (f .lent) y good done .0) ∙ sym (counts id h)
+    packets-told id h = ap (λ (b : Answer). at (b .packets) id) is ∙ ap (λ (t : Three). at t id) (reported (f .g) (f .lent) y done .0) ∙ sym (counts id h)
 
     filler-told : f .answer .filler ≡ carries f 3
-    filler-told = ap (λ (b : Answer). b .filler) is ∙ reported (f .g) (f .lent) y good done .1 ∙ sym fills
+    filler-told = ap (λ (b : Answer). b .filler) is ∙ reported (f .g) (f .lent) y done .1 ∙ sym fills
 
     whole-told : carries f 0 + carries f 1 + carries f 2 + carries f 3 ≡ f .g .n
     whole-told = omega (arith, counts 0 (lit< tt), counts 1 (lit< tt), counts 2 (lit< tt), fills, frame-sum (f .g) (f .lent) y good done)
 
     spares-told : f .answer .spares ≡ length (stepsOf p f)
-    spares-told = ap (λ (b : Answer). b .spares) is ∙ spares-reported (f .g) (f .lent) y good done ∙ ap length steps-are
+    spares-told = ap (λ (b : Answer). b .spares) is ∙ spares-reported (f .g) (f .lent) y done ∙ ap length steps-are
 
     steps-told : (id : ℕ) → id < 3 → carries f id ≡ min (at (f .g .share) id) (waitingAt p id (f .before)) + countOf id (stepsOf p f)
     steps-told id h =
         counts id h
-        ∙ steps-reported (f .g) (f .lent) y good done id h
+        ∙ steps-reported (f .g) (f .lent) y done id h
         ∙ ap₂ (λ (w : ℕ) (ids : List ℕ). min (at (f .g .share) id) w + countOf id ids) (ap (λ (w : Three). at w id) waits ∙ three-at p (f .before) id h) steps-are
 
   pub reports : Reported p E

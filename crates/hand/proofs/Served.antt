@@ -12,10 +12,11 @@ use Rattle.hand.specs.declared.Three.{Three}
 use Rattle.hand.specs.declared.Plan.{Plan}
 use Rattle.laws.specs.Pick.{pick}
 use Rattle.hand.specs.Settings.{at, total}
-use Rattle.hand.specs.Hand.{low, bump, free, give, giveFirst, giveOne, spread, handOut, taker, takers, countOf, planFor, spareIds}
+use Rattle.hand.specs.Hand.{low, bump, free, give, givenTo, turnOf, firstFree, taker, giveOne, takers, spread, sharesMet, handOut, countOf, planFor, spareIds}
 use Rattle.hand.specs.Settings.{Allowed}
 use Rattle.hand.specs.Served.{Served}
 use Rattle.hand.specs.declared.Settings.{Settings}
+use Rattle.hand.proofs.Steps.{count-append, takers-next, spread-next}
 
 -- at most, for each queue
 abbrev pub _⊑_ : Three → Three → Type 0
@@ -32,7 +33,7 @@ each P x y z u i p q r = go (eqb i 0) (eqb i 1)
     go false true = q
     go false false = r
 
-bump-up : (t : Three) (i : ℕ) → t ⊑ bump t i
+pub bump-up : (t : Three) (i : ℕ) → t ⊑ bump t i
 bump-up t i = go (eqb i 0) (eqb i 1)
   where
     go : (p q : Bool) → t ⊑ pick p (record { a = t .a + 1; b = t .b; c = t .c }) (pick q (record { a = t .a; b = t .b + 1; c = t .c }) (record { a = t .a; b = t .b; c = t .c + 1 }))
@@ -79,23 +80,18 @@ bump-at t zero (suc (suc (suc j))) h k = absurd (omega arith)
 bump-at t (suc zero) (suc (suc (suc j))) h k = absurd (omega arith)
 bump-at t (suc (suc zero)) (suc (suc (suc j))) h k = absurd (omega arith)
 
-count-more : (i x : ℕ) (xs : List ℕ) → countOf i (xs ++ (x ∷ [])) ≡ countOf i xs + pick (eqb i x) 1 0
-unfolding countOf
-count-more i x [] = omega arith
-count-more i x (y ∷ xs) = omega (arith, count-more i x xs)
-
 -- one spare went to a queue below its cap, or every queue is at its cap
 pub data Step (lim : Three) (g : Plan) : Plan → List ℕ → Type 0 where
   gave : (i : ℕ) → i < 3 → at (g .packets) i < at lim i → Step lim g (give g i) (i ∷ [])
   full : lim ⊑ g .packets → Step lim g g []
 
 pub step : (lim : Three) (g : Plan) → Step lim g (giveOne lim g) (taker lim g)
-unfolding giveOne giveFirst taker free
-step lim g = go (g .turn % 3) (omega arith) _ refl _ refl _ refl
+unfolding giveOne givenTo taker firstFree free
+step lim g = go (turnOf g) (omega arith) _ refl _ refl _ refl
   where
     go : (i : ℕ) → i < 3 → (p : Bool) → ltb (at (g .packets) i) (at lim i) ≡ p → (q : Bool) → ltb (at (g .packets) ((i + 1) % 3)) (at lim ((i + 1) % 3)) ≡ q
         → (r : Bool) → ltb (at (g .packets) ((i + 2) % 3)) (at lim ((i + 2) % 3)) ≡ r
-        → Step lim g (pick p (give g i) (pick q (give g ((i + 1) % 3)) (pick r (give g ((i + 2) % 3)) g)))
+        → Step lim g (givenTo (pick p (i ∷ []) (pick q ((i + 1) % 3 ∷ []) (pick r ((i + 2) % 3 ∷ []) []))) g)
         (pick p (i ∷ []) (pick q ((i + 1) % 3 ∷ []) (pick r ((i + 2) % 3 ∷ []) [])))
     go i h true e q e′ r e″ = gave i h (ltb-true _ _ e)
     go i h false e true e′ r e″ = gave ((i + 1) % 3) (omega arith) (ltb-true _ _ e′)
@@ -112,14 +108,14 @@ record Spread (lim : Three) (g : Plan) (k : ℕ) (r : Plan) (ids : List ℕ) : T
   full : total (r .packets) < total (g .packets) + k → lim ⊑ r .packets
 
 one-more : (lim : Three) (g r r′ : Plan) (k : ℕ) (ids more : List ℕ) → Spread lim g k r ids → Step lim r r′ more → Spread lim g (suc k) r′ (ids ++ more)
-unfolding give
+unfolding give countOf
 one-more lim g r r′ k ids more s (gave i h3 h) =
     let u = bump-up (r .packets) i in
     let t = bump-total (r .packets) i in
     let f = bump-cap (r .packets) lim i (s .under) h in
     let l = length-append ids (i ∷ []) in
     record {
-      given = λ j hj. omega (arith, bump-at (r .packets) i j h3 hj, s .given j hj, count-more j i ids);
+      given = λ j hj. omega (arith, bump-at (r .packets) i j h3 hj, s .given j hj, count-append j ids (i ∷ []));
       number = omega (arith, s .number);
       up = omega arith;
       under = f;
@@ -136,11 +132,15 @@ one-more lim g r r′ k ids more s (full w) =
       full = λ l. w;
     }
 
-spreads : (lim : Three) (g : Plan) → g .packets ⊑ lim → (k : ℕ) → Spread lim g k (spread k lim g) (takers k lim g)
-unfolding spread takers countOf
-spreads lim g h zero =
+none-yet : (lim : Three) (g : Plan) → g .packets ⊑ lim → Spread lim g 0 (spread 0 lim g) (takers 0 lim g)
+unfolding spread takers givenTo countOf
+none-yet lim g h =
     record { given = λ j hj. omega arith; number = omega arith; up = omega arith; under = h; sum = omega arith; full = λ l. absurd (omega arith) }
-spreads lim g h (suc k) = one-more lim g _ _ k _ _ (spreads lim g h k) (step lim (spread k lim g))
+
+spreads : (lim : Three) (g : Plan) → g .packets ⊑ lim → (k : ℕ) → Spread lim g k (spread k lim g) (takers k lim g)
+spreads lim g h zero = none-yet lim g h
+spreads lim g h (suc k) =
+    rw (spread-next k lim g, takers-next k lim g) (one-more lim g _ _ k _ _ (spreads lim g h k) (step lim (spread k lim g)))
 
 min-l : (x y z : ℕ) → x ≤ min y z → x ≤ y
 min-l x y z h = omega arith
@@ -155,7 +155,7 @@ within r t n h l = omega arith
 pub served : (n : ℕ) (w s m : Three) (turn : ℕ) → total s ≤ n → s ⊑ m → Served n w s m (handOut n w s m turn .packets)
 unfolding handOut
 served n w s m turn fits below =
-    let g : Plan = record { packets = low s w; turn = turn } in
+    let g = sharesMet s w turn in
     let r = spread (n - total (low s w)) (low w m) g in
     let k = spreads (low w m) g (omega arith) (n - total (low s w)) in
     let lo : total (low s w) ≤ n = omega arith in
@@ -177,12 +177,12 @@ pub record Counted (s : Settings) (w : Three) (turn : ℕ) : Type 0 where
   pub each : (i : ℕ) → i < 3 → at (planFor s w turn .packets) i ≡ min (at (s .share) i) (at w i) + countOf i (spareIds s w turn)
   pub all : total (planFor s w turn .packets) ≡ total (low (s .share) w) + length (spareIds s w turn)
 
-low-at : (x y : Three) (i : ℕ) → at (low x y) i ≡ min (at x i) (at y i)
+pub low-at : (x y : Three) (i : ℕ) → at (low x y) i ≡ min (at x i) (at y i)
 low-at x y i = each (λ p q r u. r ≡ min p q) x y (low x y) x i refl refl refl
 
 pub steps-counted : (s : Settings) (w : Three) (turn : ℕ) → Allowed s → Counted s w turn
 unfolding planFor spareIds handOut
 steps-counted s w turn k =
-    let g : Plan = record { packets = low (s .share) w; turn = turn } in
+    let g = sharesMet (s .share) w turn in
     let r = spreads (low w (s .ceiling)) g (let a = k .a .below in let b = k .b .below in let c = k .c .below in omega arith) (s .n - total (low (s .share) w)) in
     record { each = λ i h. r .given i h ∙ ap (λ (x : ℕ). x + countOf i (takers (s .n - total (low (s .share) w)) (low w (s .ceiling)) g)) (low-at (s .share) w i); all = r .number }

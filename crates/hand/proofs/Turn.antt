@@ -8,6 +8,7 @@ use Rattle.hand.specs.Hand.{give, giveOne, spread, handOut, planFor, han
 use Rattle.hand.specs.declared.Three.{Three}
 use Rattle.hand.specs.declared.Plan.{Plan}
 use Rattle.hand.specs.declared.Settings.{Settings}
+use Rattle.hand.proofs.Steps.{spread-none, spread-next}
 use Rattle.hand.proofs.Served.{Step, gave, full, step}
 use Rattle.hand.proofs.Answer.{hand-is}
 
@@ -17,9 +18,10 @@ step-turn lim g r ids (gave i h3 h) k = omega arith
 step-turn lim g r ids (full w) k = k
 
 spread-turn : (lim : Three) (g : Plan) (n : ℕ) → g .turn ≤ 2 → spread n lim g .turn ≤ 2
-unfolding spread
-spread-turn lim g zero h = h
-spread-turn lim g (suc n) h = step-turn lim (spread n lim g) (giveOne lim (spread n lim g)) (taker lim (spread n lim g)) (step lim (spread n lim g)) (spread-turn lim g n h)
+spread-turn lim g zero h = rw (spread-none lim g) h
+spread-turn lim g (suc n) h =
+    let s = spread n lim g in
+    rw (spread-next n lim g) (step-turn lim s (giveOne lim s) (taker lim s) (step lim s) (spread-turn lim g n h))
 
 pub hand-turn : (s : Settings) (w : Three) (turn : ℕ) → Allowed s → turn ≤ 2 → handFor s w turn .turn ≤ 2
 unfolding planFor handOut

@@ -12,7 +12,8 @@ use Rattle.hand.specs.declared.Three.{Three}
 use Rattle.hand.specs.declared.Plan.{Plan}
 use Rattle.laws.specs.Pick.{pick}
 use Rattle.hand.specs.Settings.{at, total}
-use Rattle.hand.specs.Hand.{low, bump, free, give, giveFirst, giveOne, spread, handOut}
+use Rattle.hand.specs.Hand.{low, bump, free, give, givenTo, turnOf, firstFree, taker, giveOne, spread, handOut}
+use Rattle.hand.proofs.Steps.{spread-next}
 
 pub at-a : (t : Three) (i : ℕ) → i ≡ 0 → t .a ≡ at t i
 at-a t i h = simp (eq-eqb _ _ h)
@@ -65,28 +66,27 @@ unfolding give
 give-is g i n′ e = simp e
 
 module _ (cap : Three) (g r : Plan) where
-  pub one-i : free cap g (g .turn % 3) ≡ true → r ≡ give g (g .turn % 3) → r ≡ giveOne cap g
-  unfolding giveOne giveFirst
+  pub one-i : free cap g (turnOf g) ≡ true → r ≡ give g (turnOf g) → r ≡ giveOne cap g
+  unfolding giveOne givenTo taker firstFree
   one-i h e = simp (h, e)
 
-  pub one-j : free cap g (g .turn % 3) ≡ false → free cap g ((g .turn % 3 + 1) % 3) ≡ true → r ≡ give g ((g .turn % 3 + 1) % 3) → r ≡ giveOne cap g
-  unfolding giveOne giveFirst
+  pub one-j : free cap g (turnOf g) ≡ false → free cap g ((turnOf g + 1) % 3) ≡ true → r ≡ give g ((turnOf g + 1) % 3) → r ≡ giveOne cap g
+  unfolding giveOne givenTo taker firstFree
   one-j h h′ e = simp (h, h′, e)
 
-  pub one-k : free cap g (g .turn % 3) ≡ false → free cap g ((g .turn % 3 + 1) % 3) ≡ false → free cap g ((g .turn % 3 + 2) % 3) ≡ true
-      → r ≡ give g ((g .turn % 3 + 2) % 3) → r ≡ giveOne cap g
-  unfolding giveOne giveFirst
+  pub one-k : free cap g (turnOf g) ≡ false → free cap g ((turnOf g + 1) % 3) ≡ false → free cap g ((turnOf g + 2) % 3) ≡ true
+      → r ≡ give g ((turnOf g + 2) % 3) → r ≡ giveOne cap g
+  unfolding giveOne givenTo taker firstFree
   one-k h h′ h″ e = simp (h, h′, h″, e)
 
-pub one-none : (cap : Three) (g : Plan) → free cap g (g .turn % 3) ≡ false → free cap g ((g .turn % 3 + 1) % 3) ≡ false
-    → free cap g ((g .turn % 3 + 2) % 3) ≡ false → g ≡ giveOne cap g
-unfolding giveOne giveFirst
+pub one-none : (cap : Three) (g : Plan) → free cap g (turnOf g) ≡ false → free cap g ((turnOf g + 1) % 3) ≡ false
+    → free cap g ((turnOf g + 2) % 3) ≡ false → g ≡ giveOne cap g
+unfolding giveOne givenTo taker firstFree
 one-none cap g h h′ h″ = simp (h, h′, h″)
 
 -- one turn more of the loop
 pub spread-more : (k : ℕ) (cap : Three) (g r r′ : Plan) → r ≡ spread k cap g → r′ ≡ giveOne cap r → r′ ≡ spread (k + 1) cap g
-unfolding spread
-spread-more k cap g r r′ e e′ = rw add-one (cc)
+spread-more k cap g r r′ e e′ = let n = spread-next k cap g in rw add-one (cc)
 
 pub spread-done : (k room : ℕ) (cap : Three) (g r : Plan) → r ≡ spread k cap g → k ≤ room → room ≤ k → r ≡ spread room cap g
 spread-done k room cap g r e h h′ = let q : k ≡ room = omega arith in cc

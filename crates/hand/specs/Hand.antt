@@ -28,45 +28,61 @@ give g i = record { packets = bump (g .packets) i; turn = (i + 1) % 3 }
 unfoldable pub free : Three → Plan → ℕ → Bool
 free cap g i = ltb (at (g .packets) i) (at cap i)
 
--- a packet to the first of queues i, j, k that is below its cap, and to none where none is
-unfoldable pub giveFirst : Three → Plan → ℕ → ℕ → ℕ → Plan
-giveFirst cap g i j k = pick (free cap g i) (give g i) (pick (free cap g j) (give g j) (pick (free cap g k) (give g k) g))
+-- a packet to each of these queues, one after the other
+unfoldable pub givenTo : List ℕ → Plan → Plan
+givenTo [] g = g
+givenTo (i ∷ ids) g = givenTo ids (give g i)
 
--- one spare, in cyclic order from the turn
-unfoldable pub giveOne : Three → Plan → Plan
-giveOne cap g = giveFirst cap g (g .turn % 3) ((g .turn % 3 + 1) % 3) ((g .turn % 3 + 2) % 3)
+-- the queue whose turn it is
+abbrev pub turnOf : Plan → ℕ
+turnOf g = g .turn % 3
 
--- as many spares as there is room for, one at a time
-unfoldable pub spread : ℕ → Three → Plan → Plan
-spread zero cap g = g
-spread (suc room) cap g = giveOne cap (spread room cap g)
+-- the first of queues i, j, k that is below its cap; none where none is
+unfoldable pub firstFree : Three → Plan → ℕ → ℕ → ℕ → List ℕ
+firstFree cap g i j k = pick (free cap g i) (i ∷ []) (pick (free cap g j) (j ∷ []) (pick (free cap g k) (k ∷ []) []))
 
--- n packets: each queue's share or what waits, then spares to queues below both what waits and the ceiling
-unfoldable pub handOut : ℕ → Three → Three → Three → ℕ → Plan
-handOut n waiting share ceiling turn =
-    spread (n - total (low share waiting)) (low waiting ceiling) (record { packets = low share waiting; turn = turn })
-
--- ---- the same hand-out, step by step
--- who gets the next spare: one id, or none
+-- who gets the next spare, in cyclic order from the turn
 unfoldable pub taker : Three → Plan → List ℕ
-taker cap g =
-    pick (free cap g (g .turn % 3)) (g .turn % 3 ∷ [])
-    (pick (free cap g ((g .turn % 3 + 1) % 3)) ((g .turn % 3 + 1) % 3 ∷ []) (pick (free cap g ((g .turn % 3 + 2) % 3)) ((g .turn % 3 + 2) % 3 ∷ []) []))
+taker cap g = firstFree cap g (turnOf g) ((turnOf g + 1) % 3) ((turnOf g + 2) % 3)
 
--- the ids that get a spare, in the order of handing out
+-- one spare
+unfoldable pub giveOne : Three → Plan → Plan
+giveOne cap g = givenTo (taker cap g) g
+
+-- who gets a spare, in the order of handing out: as many as there is room for, one at a time
 unfoldable pub takers : ℕ → Three → Plan → List ℕ
 takers zero cap g = []
-takers (suc room) cap g = takers room cap g ++ taker cap (spread room cap g)
+takers (suc room) cap g = taker cap g ++ takers room cap (giveOne cap g)
+
+-- these spares
+unfoldable pub spread : ℕ → Three → Plan → Plan
+spread room cap g = givenTo (takers room cap g) g
+
+-- each queue's share or what waits, before the first spare
+abbrev pub sharesMet : Three → Three → ℕ → Plan
+sharesMet share waiting turn = record { packets = low share waiting; turn = turn }
+
+-- n packets: these first, then spares to queues below both what waits and the ceiling
+unfoldable pub handOut : ℕ → Three → Three → Three → ℕ → Plan
+handOut n waiting share ceiling turn = spread (n - total (low share waiting)) (low waiting ceiling) (sharesMet share waiting turn)
 
 -- how often i stands in a list
 unfoldable pub countOf : ℕ → List ℕ → ℕ
 countOf i [] = 0
 countOf i (x ∷ xs) = pick (eqb i x) 1 0 + countOf i xs
 
--- the steps of a frame
+-- ---- a frame with these settings, before which so many packets wait
+-- the packets that the shares leave
+abbrev pub roomOf : Settings → Three → ℕ
+roomOf s waiting = s .n - total (low (s .share) waiting)
+
+-- the most that each queue gets: what waits in it, or its ceiling
+abbrev pub capOf : Settings → Three → Three
+capOf s waiting = low waiting (s .ceiling)
+
+-- the steps of handing out: who gets a spare, in order
 unfoldable pub spareIds : Settings → Three → ℕ → List ℕ
-spareIds s waiting turn =
-    takers (s .n - total (low (s .share) waiting)) (low waiting (s .ceiling)) (record { packets = low (s .share) waiting; turn = turn })
+spareIds s waiting turn = takers (roomOf s waiting) (capOf s waiting) (sharesMet (s .share) waiting turn)
 
 -- ---- the call
 -- with these settings

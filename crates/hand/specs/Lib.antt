@@ -1,3 +1,4 @@
 pub mod Settings
 pub mod Hand
 pub mod Served
+pub mod Spares

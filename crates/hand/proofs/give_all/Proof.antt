@@ -1,9 +1,10 @@
 -- `hand::give_all` meets its contract. Assumes nothing.
-use mathlib.Core.Path.{_≡_, refl}
+use mathlib.Core.Path.{_≡_, sym}
 use Prim.Native.Nat.{_≤_, _-_, zero-le}
 use native.Mathlib.Omega.{arith}
 use borrow.Author.Needs.{needs}
 use Rattle.hand.specs.Hand.{spread}
+use Rattle.hand.proofs.Steps.{spread-none}
 use Rattle.hand.proofs.Ways.{spread-more, spread-done}
 use Rattle.hand.proofs.give_all.Statement.{statement}
 use Rattle.hand.proofs.give_all.Tie as tie
@@ -15,8 +16,7 @@ abbrev μ-loop : tie.MeasureT-loop
 μ-loop room cap r₀ k₀ r k = room - k
 
 loop-holds : tie.Need-loop-holds Inv-loop μ-loop
-unfolding spread
-loop-holds c = (zero-le, refl)
+loop-holds c = (zero-le, sym (spread-none _ _))
 
 give-one-requires : tie.Need-give-one-requires Inv-loop μ-loop
 give-one-requires c κs = search needs
@@ -28,7 +28,6 @@ loop-less : tie.Need-loop-less Inv-loop μ-loop
 loop-less c = omega arith
 
 loop-again : tie.Need-loop-again Inv-loop μ-loop
-unfolding spread
 loop-again c = (omega arith, search spread-more)
 
 returns : tie.Need-returns Inv-loop μ-loop
