@@ -3,6 +3,7 @@
 use crate::crc::crc16;
 use crate::reader::Reader;
 use crate::refusal::Refusal;
+use crate::runs::Added;
 
 /// The longest buffer whose bytes stand in an answer.
 const LONGEST_SHOWN: usize = 64;
@@ -14,6 +15,8 @@ pub struct Answer {
     pub place: u64,
     pub values: Vec<u64>,
     pub buffers: Vec<Lent>,
+    /// What was added up over the run that the case plays; it is not written into the answer.
+    pub added: Added,
 }
 
 /// A lent buffer as it is after the call.
@@ -38,6 +41,7 @@ impl Answer {
             place: refusal.place,
             values: Vec::new(),
             buffers: Vec::new(),
+            added: Added::default(),
         }
     }
 
@@ -152,6 +156,12 @@ fn count(parts: usize) -> u8 {
 /// The content of the answer to a case; a malformed case has none.
 pub fn content(answer: &Option<Answer>) -> Vec<u8> {
     answer.as_ref().map_or_else(Vec::new, Answer::content)
+}
+
+/// What does not add up over the run of a case: such a case fails, whatever is answered to it.
+pub fn differences(answer: &Option<Answer>) -> &[String] {
+    let added = answer.as_ref().map(|answer| &answer.added);
+    added.map_or(&[], |added| &added.differences)
 }
 
 /// The content with its size in front.

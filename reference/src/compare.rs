@@ -1,9 +1,11 @@
-//! Compares the answers of another program with those of this one (docs/CASES.md), byte for byte.
+//! Compares the answers of another program with those of this one (docs/CASES.md), byte for byte. A case whose
+//! run does not add up (document 02, E11) fails as well, also where both answers are the same.
 
 use crate::answer::{self, Answer, Given};
 use crate::calls;
 use crate::case::{Entries, Entry};
 use crate::reader::Reader;
+use crate::runs::Added;
 use crate::show;
 use std::collections::BTreeMap;
 use std::io::{self, Write};
@@ -14,14 +16,26 @@ const PRINTED: u64 = 10;
 /// Prints the differences and the counts, and tells whether there were cases and no differences.
 /// Bytes behind the last answer are a failure of their own.
 pub fn compare(cases: &[u8], answers: &[u8], out: &mut impl Write) -> io::Result<bool> {
+    compare_with(calls::answer, cases, answers, out)
+}
+
+/// What answers an entry.
+type Answering = fn(&Entry) -> Option<Answer>;
+
+fn compare_with(
+    answering: Answering,
+    cases: &[u8],
+    answers: &[u8],
+    out: &mut impl Write,
+) -> io::Result<bool> {
     let mut answers = Reader::new(answers);
     let mut counts = Counts::default();
     let (mut passed, mut failed) = (0, 0);
     for (place, entry) in Entries::new(cases).enumerate() {
-        let expected = calls::answer(&entry);
+        let expected = answering(&entry);
         let given = Given::next(&mut answers);
         counts.add(&entry, &expected);
-        if given == Given::Whole(&answer::content(&expected)) {
+        if agrees(&expected, &given) {
             passed += 1;
             continue;
         }
@@ -43,15 +57,25 @@ pub fn compare(cases: &[u8], answers: &[u8], out: &mut impl Write) -> io::Result
         writeln!(out, "there are no cases to compare\n")?;
     }
     writeln!(out, "{}", counts.line())?;
+    if let Some(line) = counts.added_line() {
+        writeln!(out, "{line}")?;
+    }
     writeln!(out, "{passed} passed, {failed} failed")?;
     Ok(failed == 0 && passed > 0)
 }
 
-/// How often each call, and each number among the expected answers, occurred.
+/// Whether the answer given is the one expected, and that one adds up.
+fn agrees(expected: &Option<Answer>, given: &Given) -> bool {
+    let adds_up = answer::differences(expected).is_empty();
+    adds_up && *given == Given::Whole(&answer::content(expected))
+}
+
+/// How often each call, and each number among the expected answers, occurred, and what was added up.
 #[derive(Default)]
 struct Counts {
     calls: BTreeMap<Option<u8>, u64>,
     numbers: BTreeMap<Option<u8>, u64>,
+    added: Added,
 }
 
 impl Counts {
@@ -60,6 +84,9 @@ impl Counts {
         *self.calls.entry(call).or_default() += 1;
         let number = expected.as_ref().map(|answer| answer.number);
         *self.numbers.entry(number).or_default() += 1;
+        if let Some(answer) = expected {
+            self.added.add(&answer.added);
+        }
     }
 
     fn line(&self) -> String {
@@ -81,6 +108,22 @@ impl Counts {
         }
         line += &parts.join(", ");
         line
+    }
+
+    /// What E11 was held against; none where there was no run.
+    fn added_line(&self) -> Option<String> {
+        let Added {
+            packets,
+            frames,
+            stretches,
+            ..
+        } = self.added;
+        (packets + frames > 0).then(|| {
+            format!(
+                "added up: the bytes of {packets} packets; for each two queues that could both take every \
+                 spare, {frames} frames, {stretches} times two or more in a row"
+            )
+        })
     }
 }
 
@@ -127,9 +170,38 @@ mod tests {
         let cases = cases();
         let (well, lines) = compared(&cases, &answers(&cases));
         let count = Entries::new(&cases).count();
-        assert!(well && lines.len() == 2);
+        assert!(well && lines.len() == 3);
         assert!(lines[0].starts_with("cases: crc8 "));
-        assert_eq!(lines[1], format!("{count} passed, 0 failed"));
+        assert!(lines[1].starts_with("added up: the bytes of "));
+        assert_eq!(lines[2], format!("{count} passed, 0 failed"));
+    }
+
+    /// As the call has it, but the runs of call 36 whose last packet is accepted do not add up.
+    fn unbalanced(entry: &Entry) -> Option<Answer> {
+        let mut answer = calls::answer(entry)?;
+        if matches!(entry, Entry::Case { call: 36, .. }) && answer.number == 0 {
+            let what = "packet 1: id 0: no balance".to_string();
+            answer.added.differences.push(what);
+        }
+        Some(answer)
+    }
+
+    /// A run that does not add up is a failed case, also where both programs answer the same.
+    #[test]
+    fn what_does_not_add_up_fails() {
+        let mut cases = Vec::new();
+        generate(1, 0, &(36..=37), &mut cases).unwrap();
+        let wrong = Entries::new(&cases)
+            .filter(|entry| !answer::differences(&unbalanced(entry)).is_empty())
+            .count();
+        let mut out = Vec::new();
+        let well = compare_with(unbalanced, &cases, &answers(&cases), &mut out).unwrap();
+        let text = String::from_utf8(out).unwrap();
+        let all = Entries::new(&cases).count();
+        let last = format!("\n{} passed, {wrong} failed\n", all - wrong);
+        assert!(wrong > 100 && !well && text.ends_with(&last));
+        let shown = "  does not add up: packet 1: id 0: no balance\n";
+        assert_eq!(text.matches(shown).count(), PRINTED as usize);
     }
 
     #[test]

@@ -1,10 +1,12 @@
 //! The second, independent program (document 01, end of "Marked examples").
 //!
 //! It answers cases from definitions written from document 01 and the standards alone: plain, bit by
-//! bit, and not fast. It also makes the cases, and compares another program's answers with its own.
-//! The framing of cases and answers is set out in docs/CASES.md. This file is the command line only.
+//! bit, and not fast. It also makes the cases, adds up what document 02, E11, claims of the runs in them, and
+//! compares another program's answers with its own. The framing of cases and answers is set out in
+//! docs/CASES.md. This file is the command line only.
 
 mod answer;
+mod balance;
 mod bits;
 mod buffer;
 mod calendar;
@@ -31,8 +33,10 @@ mod reader;
 mod receiver;
 mod recording;
 mod refusal;
+mod runs;
 mod sender;
 mod show;
+mod spares;
 
 use std::ffi::{OsStr, OsString};
 use std::io::{self, BufWriter, Read, Write};
@@ -47,7 +51,7 @@ usage: reference generate SEED COUNT [FIRST LAST]
        reference compare CASES ANSWERS   compare the answers in a file with those of this program
 generate, answer and show use standard input and output; SEED and COUNT are below 2 to the 64";
 
-/// The status of a comparison that found a difference.
+/// The status of a comparison that found a difference, or of answers whose runs do not add up.
 const DIFFERENT: u8 = 1;
 /// The status where nothing could be done.
 const UNUSABLE: u8 = 2;
@@ -113,7 +117,7 @@ fn run(command: Command) -> Result<bool, String> {
         Command::Generate { seed, count, calls } => {
             generate::generate(seed, count, &calls, &mut out).map(|()| true)
         }
-        Command::Answer => answer_all(&standard_input()?, &mut out).map(|()| true),
+        Command::Answer => answer_all(&standard_input()?, &mut out),
         Command::Show => show::show_all(&standard_input()?, &mut out).map(|()| true),
         Command::Compare { cases, answers } => {
             compare::compare(&file(&cases)?, &file(&answers)?, &mut out)
@@ -124,11 +128,15 @@ fn run(command: Command) -> Result<bool, String> {
         .map_err(|error| format!("Standard output cannot be written: {error}."))
 }
 
-fn answer_all(cases: &[u8], out: &mut impl Write) -> io::Result<()> {
+/// Whether all runs in the cases add up.
+fn answer_all(cases: &[u8], out: &mut impl Write) -> io::Result<bool> {
+    let mut well = true;
     for entry in case::Entries::new(cases) {
-        out.write_all(&answer::framed(&calls::answer(&entry)))?;
+        let answer = calls::answer(&entry);
+        well &= answer::differences(&answer).is_empty();
+        out.write_all(&answer::framed(&answer))?;
     }
-    Ok(())
+    Ok(well)
 }
 
 fn standard_input() -> Result<Vec<u8>, String> {

@@ -78,7 +78,7 @@ impl Link {
 }
 
 /// Padded, count 0, both flags, on any id.
-fn is_null(packet: &Packet) -> bool {
+pub fn is_null(packet: &Packet) -> bool {
     packet.padded && packet.useful.is_empty() && packet.header.first && packet.header.last
 }
 
@@ -132,7 +132,8 @@ mod tests {
     use super::*;
     use crate::packet::{Header, FRAMING};
     use crate::random::Random;
-    use crate::sender::{Sender, Settings, STORE_BYTES};
+    use crate::runs::{Hearing, Sending};
+    use crate::sender::Settings;
     use std::collections::VecDeque;
 
     fn refused<T>(number: u8) -> Result<T, Refusal> {
@@ -153,18 +154,27 @@ mod tests {
     const LAST: u8 = 1;
     const BOTH: u8 = 3;
 
-    /// A receiver with its buffer, fresh.
+    /// A run whose packets are all accepted, and which adds up after each.
     struct Run {
-        receiver: Receiver,
-        buffer: Vec<u8>,
+        hearing: Hearing,
     }
 
     impl Run {
         fn new() -> Run {
+            Run::of(Receiver::default())
+        }
+
+        fn of(receiver: Receiver) -> Run {
             Run {
-                receiver: Receiver::default(),
-                buffer: vec![0xEE; BUFFER_BYTES],
+                hearing: Hearing::new(receiver, vec![0xEE; BUFFER_BYTES]),
             }
+        }
+
+        /// With this link of one id, and the others fresh.
+        fn at(id: usize, link: Link) -> Run {
+            let mut receiver = Receiver::default();
+            receiver.links[id] = link;
+            Run::of(receiver)
         }
 
         /// A packet with p = 4: the unit's bytes where one ends.
@@ -173,18 +183,20 @@ mod tests {
             packet::write(4, header(flags, id, index), useful, &mut bytes).unwrap();
             self.step(&bytes).ended.map(|ended| {
                 assert_eq!(ended.id, usize::from(id));
-                ended.unit(&self.buffer).to_vec()
+                ended.unit(&self.hearing.buffer).to_vec()
             })
         }
 
         /// A packet that is accepted.
         fn step(&mut self, bytes: &[u8]) -> Heard {
             let p = (bytes.len() - FRAMING) as u64;
-            self.receiver.step(p, &mut self.buffer, bytes).unwrap()
+            let heard = self.hearing.step(p, bytes).unwrap();
+            assert_eq!(self.hearing.added().differences, [""; 0]);
+            heard
         }
 
         fn link(&self, id: usize) -> (u8, u8, u8, u16) {
-            let link = self.receiver.links[id];
+            let link = self.hearing.receiver.links[id];
             (link.heard, link.index, link.open, link.length)
         }
     }
@@ -203,7 +215,8 @@ mod tests {
         assert_eq!(ended[1], Some(Delivered { id: 1, length: 6 }));
         assert_eq!(ended[2], None);
         assert_eq!(ended[3], Some(Delivered { id: 0, length: 0 }));
-        assert_eq!(run.buffer[4_096..4_103], [1, 2, 3, 4, 5, 6, 0xEE]);
+        let front = &run.hearing.buffer[4_096..4_103];
+        assert_eq!(front, [1, 2, 3, 4, 5, 6, 0xEE]);
         assert_eq!((run.link(0), run.link(1)), ((1, 2, 0, 0), (1, 2, 0, 0)));
         assert_eq!(run.link(2), (0, 0, 0, 0));
     }
@@ -264,16 +277,17 @@ mod tests {
             (4_096, 0, Some(4_096)),
             (4_096, 1, None),
         ] {
-            let mut run = Run::new();
-            run.receiver.links[3] = Link {
+            let link = Link {
                 heard: 1,
                 index: 5,
                 open: 1,
                 length: already,
             };
+            let mut run = Run::at(3, link);
             let found = run.take(LAST, 3, 5, &[7; 4][..useful]);
             assert_eq!(found.map(|unit| unit.len()), length);
-            let written = run.buffer.iter().filter(|byte| **byte == 7).count();
+            let bytes = run.hearing.buffer.iter();
+            let written = bytes.filter(|byte| **byte == 7).count();
             assert_eq!(written, length.map_or(0, |_| useful));
             assert_eq!(run.link(3), (1, 6, 0, 0));
             assert_eq!(run.take(LAST, 3, 6, &[7]), None);
@@ -324,13 +338,13 @@ mod tests {
             (255, 4_096, 255, FIRST, None, 4_096),
             (1, 4_096, 1, MIDDLE, None, 4_097),
         ] {
-            let mut run = Run::new();
-            run.receiver.links[2] = Link {
+            let link = Link {
                 heard: 1,
                 index: 7,
                 open: 1,
                 length: already,
             };
+            let mut run = Run::at(2, link);
             let mut bytes = vec![0; p + FRAMING];
             packet::write(p as u64, header(flags, 2, 7), &vec![7; useful], &mut bytes).unwrap();
             let ended = length.map(|length| Delivered { id: 2, length });
@@ -373,13 +387,13 @@ mod tests {
             (1, 0, LAST, 1, 0),
             (1, 1, LAST, 1, 9),
         ] {
-            let mut run = Run::new();
-            run.receiver.links[1] = Link {
+            let link = Link {
                 heard,
                 index: 3,
                 open,
                 length: 9,
             };
+            let mut run = Run::at(1, link);
             let mut bytes = [0; 7];
             packet::write(4, header(flags, 1, 5), &[7; 4][..useful], &mut bytes).unwrap();
             assert_eq!(run.step(&bytes).dropped, dropped);
@@ -395,12 +409,12 @@ mod tests {
             open: 0,
             length: 65_535,
         };
-        let mut run = Run::new();
-        run.receiver.links = [strange; 4];
+        let links = [strange; 4];
+        let mut run = Run::of(Receiver { links });
         assert_eq!(run.take(BOTH, 0, 2, &[]), None);
         assert_eq!(run.link(0), (1, 3, 0, 0));
-        assert_eq!(run.receiver.links[1..], [strange; 3]);
-        assert_eq!(run.buffer, [0xEE; BUFFER_BYTES]);
+        assert_eq!(run.hearing.receiver.links[1..], [strange; 3]);
+        assert_eq!(run.hearing.buffer, [0xEE; BUFFER_BYTES]);
     }
 
     #[test]
@@ -471,31 +485,31 @@ mod tests {
                 ceilings: [packets, packets.div_ceil(2), packets],
             };
             settings.check().unwrap();
-            let (mut sender, mut store) = (Sender::default(), vec![0; STORE_BYTES]);
-            let mut run = Run::new();
+            let (mut sending, mut run) = (Sending::fresh(), Run::new());
             let mut loaded: [VecDeque<Vec<u8>>; 3] = Default::default();
             let bytes = settings.p as usize + FRAMING;
             for _ in 0..80 {
                 let id = random.below(3) as usize;
                 let length = random.pick(&[1, 5, 30, settings.p, 2 * settings.p, 700]);
                 let unit = random.bytes(length as usize);
-                let done = sender.load(&settings, &mut store, id as u64, &unit);
-                if done.is_ok() {
+                if sending.load(&settings, id as u64, &unit).is_ok() {
                     loaded[id].push_back(unit);
                 }
                 let mut frame = vec![0; packets as usize * bytes];
-                sender.frame(&settings, &mut store, &mut frame).unwrap();
+                sending.frame(&settings, &mut frame).unwrap();
                 for packet in frame.chunks(bytes) {
                     let heard = run.step(packet);
                     assert_eq!(heard.dropped, 0, "round {round}");
                     if let Some(ended) = heard.ended {
                         let unit = loaded[ended.id].pop_front().unwrap();
-                        assert_eq!(ended.unit(&run.buffer), unit, "round {round}");
+                        let arrived = ended.unit(&run.hearing.buffer);
+                        assert_eq!(arrived, unit, "round {round}");
                         delivered += 1;
                     }
                 }
             }
-            for (queue, left) in sender.queues.iter().zip(loaded) {
+            assert_eq!(sending.added().differences, [""; 0]);
+            for (queue, left) in sending.sender.queues.iter().zip(loaded) {
                 assert_eq!(queue.units as usize, left.len());
             }
         }

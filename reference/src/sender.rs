@@ -48,13 +48,15 @@ impl Settings {
 }
 
 /// What the packets of a frame are used for.
-#[derive(Debug, Clone, Copy, Default, PartialEq, Eq)]
+#[derive(Debug, Clone, Default, PartialEq, Eq)]
 pub struct HandOut {
     pub packets: [u64; QUEUES],
     pub spares: u64,
     pub filler: u64,
     /// The turn after it.
     pub turn: u64,
+    /// The ids that got a spare, in order; in no answer, but added up over a run (document 02, E11).
+    pub ids: Vec<usize>,
 }
 
 /// Every share first, then the spares one by one from the turn on, then filler.
@@ -68,7 +70,7 @@ pub fn hand_out(
     for id in 0..QUEUES {
         packets[id] = settings.shares[id].min(waiting[id]);
     }
-    let (mut spares, mut turn) = (0, turn);
+    let (mut spares, mut turn, mut ids) = (0, turn, Vec::new());
     while packets.iter().sum::<u64>() < settings.packets {
         let first = (turn % QUEUES as u64) as usize;
         let can_take = |id: &usize| packets[*id] < waiting[*id].min(settings.ceilings[*id]);
@@ -76,6 +78,7 @@ pub fn hand_out(
         let Some(id) = in_turn.find(can_take) else {
             break;
         };
+        ids.push(id);
         packets[id] += 1;
         spares += 1;
         turn = ((id + 1) % QUEUES) as u64;
@@ -85,6 +88,7 @@ pub fn hand_out(
         spares,
         filler: settings.packets - packets.iter().sum::<u64>(),
         turn,
+        ids,
     })
 }
 
@@ -164,6 +168,11 @@ impl Sender {
         refuse(17, self.indexes.iter().any(|index| *index > HIGHEST_INDEX))
     }
 
+    /// Packets that wait in each queue; p is at least 1.
+    pub fn waiting(&self, p: u64) -> [u64; QUEUES] {
+        self.queues.map(|queue| queue.waiting(p))
+    }
+
     /// Puts a unit behind the bytes of its queue that are not yet sent.
     pub fn load(
         &mut self,
@@ -199,8 +208,7 @@ impl Sender {
         settings.check()?;
         self.check(settings.p)?;
         refuse(1, store.len() != STORE_BYTES)?;
-        let waiting = self.queues.map(|queue| queue.waiting(settings.p));
-        let handed = hand_out(settings, waiting, self.turn)?;
+        let handed = hand_out(settings, self.waiting(settings.p), self.turn)?;
         let mut next = *self;
         let mut frame = Vec::new();
         for id in 0..QUEUES {
@@ -254,6 +262,7 @@ impl Sender {
 mod tests {
     use super::*;
     use crate::random::Random;
+    use crate::runs::Sending;
 
     fn refused<T>(number: u8) -> Result<T, Refusal> {
         Err(Refusal::number(number))
@@ -278,33 +287,40 @@ mod tests {
         }
     }
 
-    fn handed(packets: [u64; 3], spares: u64, filler: u64, turn: u64) -> Result<HandOut, Refusal> {
+    /// The ids are those that get the spares.
+    fn handed(
+        packets: [u64; 3],
+        ids: &[usize],
+        filler: u64,
+        turn: u64,
+    ) -> Result<HandOut, Refusal> {
         Ok(HandOut {
             packets,
-            spares,
+            spares: ids.len() as u64,
             filler,
             turn,
+            ids: ids.to_vec(),
         })
     }
 
     #[test]
     fn examples_9_to_12() {
         let out = |waiting, turn| hand_out(&example(), waiting, turn);
-        assert_eq!(out([20, 1, 0], 0), handed([9, 1, 0], 6, 0, 1));
-        assert_eq!(out([0, 20, 0], 0), handed([0, 6, 0], 3, 4, 2));
-        assert_eq!(out([20, 20, 20], 0), handed([4, 4, 2], 2, 0, 2));
-        assert_eq!(out([16, 16, 18], 2), handed([4, 3, 3], 2, 0, 1));
+        assert_eq!(out([20, 1, 0], 0), handed([9, 1, 0], &[0; 6], 0, 1));
+        assert_eq!(out([0, 20, 0], 0), handed([0, 6, 0], &[1; 3], 4, 2));
+        assert_eq!(out([20, 20, 20], 0), handed([4, 4, 2], &[0, 1], 0, 2));
+        assert_eq!(out([16, 16, 18], 2), handed([4, 3, 3], &[2, 0], 0, 1));
     }
 
     #[test]
     fn nothing_spare_leaves_the_turn() {
         assert_eq!(
             hand_out(&example(), [3, 0, 2], 7),
-            handed([3, 0, 2], 0, 5, 7)
+            handed([3, 0, 2], &[], 5, 7)
         );
         assert_eq!(
             hand_out(&example(), [4, 4, 4], 7),
-            handed([3, 4, 3], 2, 0, 0)
+            handed([3, 4, 3], &[1, 2], 0, 0)
         );
     }
 
@@ -348,14 +364,13 @@ mod tests {
     #[test]
     fn a_unit_in_two_packets() {
         let settings = small(4, 3);
-        let mut sender = Sender::default();
-        let mut store = [7; STORE_BYTES];
+        let mut run = Sending::new(Sender::default(), vec![7; STORE_BYTES]);
         let unit = [1, 2, 3, 4, 5, 6];
-        assert_eq!(sender.load(&settings, &mut store, 1, &unit), Ok(()));
-        assert_eq!(store[4_096..4_103], [1, 2, 3, 4, 5, 6, 7]);
+        assert_eq!(run.load(&settings, 1, &unit), Ok(()));
+        assert_eq!(run.store[4_096..4_103], [1, 2, 3, 4, 5, 6, 7]);
         let mut output = [9; 22];
-        let out = sender.frame(&settings, &mut store, &mut output);
-        assert_eq!(out, handed([0, 2, 0], 2, 1, 2));
+        let out = run.frame(&settings, &mut output);
+        assert_eq!(out, handed([0, 2, 0], &[1, 1], 1, 2));
         let expected = [
             0x90, 1, 2, 3, 4, 0xC5, 0x7A, // first
             0x59, 2, 5, 6, 0, 0xFF, 0x83, // last
@@ -368,22 +383,22 @@ mod tests {
             indexes: [0, 2, 0, 1],
             ..Sender::default()
         };
-        assert_eq!(sender, after);
-        let out = sender.frame(&settings, &mut store, &mut output);
-        assert_eq!(out, handed([0, 0, 0], 0, 3, 2));
+        assert_eq!(run.sender, after);
+        let out = run.frame(&settings, &mut output);
+        assert_eq!(out, handed([0, 0, 0], &[], 3, 2));
         assert_eq!([output[0], output[7], output[14]], [0xF9, 0xFA, 0xFB]);
         after.indexes[3] = 4;
-        assert_eq!(sender, after);
+        assert_eq!(run.sender, after);
+        assert_eq!(run.added().differences, [""; 0]);
     }
 
     /// Five bytes, two of them sent: the three others move to the front and no byte behind them changes.
     #[test]
     fn the_rest_moves_to_the_front() {
         let settings = small(2, 1);
-        let mut sender = Sender::default();
-        let mut store = [7; STORE_BYTES];
+        let mut run = Sending::new(Sender::default(), vec![7; STORE_BYTES]);
         for unit in [&[1, 2, 3][..], &[4, 5]] {
-            assert_eq!(sender.load(&settings, &mut store, 2, unit), Ok(()));
+            assert_eq!(run.load(&settings, 2, unit), Ok(()));
         }
         let mut output = [9; 5];
         for (front, queue) in [
@@ -392,11 +407,12 @@ mod tests {
             ([4, 5, 5, 4, 5, 7], (0, 0, [0; 8], 0xE2)),
         ] {
             let (units, sent, left, header) = queue;
-            assert!(sender.frame(&settings, &mut store, &mut output).is_ok());
-            assert_eq!(store[8_192..8_198], front);
-            assert_eq!(sender.queues[2], Queue { units, sent, left });
+            assert!(run.frame(&settings, &mut output).is_ok());
+            assert_eq!(run.store[8_192..8_198], front);
+            assert_eq!(run.sender.queues[2], Queue { units, sent, left });
             assert_eq!(output[0], header);
         }
+        assert_eq!(run.added().differences, [""; 0]);
     }
 
     #[test]
@@ -514,20 +530,19 @@ mod tests {
                 ceilings: [2 + random.below(5), 2 + random.below(5), 6],
                 ..small(1 + random.below(9), 6)
             };
-            let (mut sender, mut store) = (Sender::default(), vec![5; STORE_BYTES]);
+            let mut run = Sending::new(Sender::default(), vec![5; STORE_BYTES]);
             let mut loaded: [Vec<u8>; 3] = Default::default();
             let mut received: [Vec<u8>; 3] = Default::default();
             for _ in 0..200 {
                 let length = 1 + random.below(40) as usize;
                 let (id, unit) = (random.below(3) as usize, random.bytes(length));
-                let loading = sender.load(&settings, &mut store, id as u64, &unit);
-                match loading {
+                match run.load(&settings, id as u64, &unit) {
                     Ok(()) => loaded[id].extend(unit),
                     Err(refusal) => assert_eq!(refusal.number, 15),
                 }
                 let size = settings.p as usize + FRAMING;
                 let mut output = vec![0; 6 * size];
-                let out = sender.frame(&settings, &mut store, &mut output).unwrap();
+                let out = run.frame(&settings, &mut output).unwrap();
                 assert_eq!(out.packets.iter().sum::<u64>() + out.filler, 6);
                 for bytes in output.chunks(size) {
                     let packet = packet::read(settings.p, bytes).unwrap();
@@ -539,10 +554,11 @@ mod tests {
             }
             for (id, received) in received.iter_mut().enumerate() {
                 let place = QUEUE_BYTES * id;
-                let unsent = sender.queues[id].unsent();
-                received.extend(&store[place..place + unsent]);
+                let unsent = run.sender.queues[id].unsent();
+                received.extend(&run.store[place..place + unsent]);
             }
             assert_eq!(loaded, received);
+            assert_eq!(run.added().differences, [""; 0]);
         }
     }
 }

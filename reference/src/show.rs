@@ -1,6 +1,6 @@
 //! Cases and answers for readers: hexadecimal bytes, numbers and words.
 
-use crate::answer::{Answer, Given, Lent};
+use crate::answer::{self, Answer, Given, Lent};
 use crate::buffer::Buffer;
 use crate::calls::{self, Call};
 use crate::case::{Entries, Entry};
@@ -30,11 +30,15 @@ pub fn case(number: usize, entry: &Entry, expected: &Option<Answer>) -> String {
     for line in lines {
         text += &format!("  {line}\n");
     }
-    let expected = match expected {
+    let said = match expected {
         Some(expected) => answer(call, expected),
         None => "size 0, for a malformed case".to_string(),
     };
-    text + &format!("  expected: {expected}\n")
+    text += &format!("  expected: {said}\n");
+    for difference in answer::differences(expected) {
+        text += &format!("  does not add up: {difference}\n");
+    }
+    text
 }
 
 /// What cannot be told apart into arguments.

@@ -122,6 +122,7 @@ fn whole_body<T>(entry: &Entry, read: fn(&mut Reader) -> Option<T>) -> Option<T>
 mod tests {
     use super::*;
     use crate::case::{framed, Entries};
+    use crate::runs::Added;
     use crate::show;
 
     fn answer_of(call: u8, body: &[u8]) -> Option<Answer> {
@@ -196,6 +197,39 @@ mod tests {
                 found.dedup();
                 assert_eq!(found, numbers, "call {}", call.code);
             }
+        }
+    }
+
+    /// Every run adds up (document 02, E11), and 1,000 random cases of a call have at least so many packets in
+    /// the balance, frames that two queues share their spares in, and runs of two such frames or more.
+    #[test]
+    fn every_run_adds_up() {
+        for (code, least) in [
+            (34, [0, 300, 0]),
+            (35, [0, 5_000, 800]),
+            (36, [8_000, 0, 0]),
+            (37, [80_000, 4_000, 400]),
+        ] {
+            let call = CALLS.iter().find(|call| call.code == code).unwrap();
+            let mut random = Random::new(9);
+            let fixed = (call.fixed)(&mut random);
+            let drawn: Vec<_> = (0..1_000).map(|_| (call.random)(&mut random)).collect();
+            let mut added = [Added::default(), Added::default()];
+            for (added, bodies) in added.iter_mut().zip([fixed, drawn]) {
+                for answer in bodies.iter().filter_map(|body| answer_of(code, body)) {
+                    added.add(&answer.added);
+                }
+                assert_eq!(added.differences, [""; 0], "call {code}");
+            }
+            let Added {
+                packets,
+                frames,
+                stretches,
+                ..
+            } = added[1];
+            let found = [packets, frames, stretches];
+            let mut both = found.iter().zip(&least);
+            assert!(both.all(|(found, least)| found >= least), "{found:?}");
         }
     }
 

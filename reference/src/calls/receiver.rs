@@ -13,6 +13,7 @@ use crate::random::Random;
 use crate::reader::Reader;
 use crate::receiver::{Link, Receiver, BUFFER_BYTES, ID_BYTES};
 use crate::refusal::Refusal;
+use crate::runs::Hearing;
 use crate::sender::IDS;
 use std::collections::VecDeque;
 
@@ -54,15 +55,14 @@ impl Arguments for Script {
 
 fn answer(body: &mut Reader) -> Option<Answer> {
     let script = Script::read(body)?;
-    let mut receiver = script.receiver;
-    let mut buffer = script.buffer.bytes();
     if script.packets.len() > LONGEST {
         return None;
     }
+    let mut run = Hearing::new(script.receiver, script.buffer.bytes());
     let mut last = Refusal::number(0);
     let mut values = Vec::new();
     for Handed { p, packet } in &script.packets {
-        let done = receiver.step(*p, &mut buffer, &packet.bytes());
+        let done = run.step(*p, &packet.bytes());
         last = done.err().unwrap_or(Refusal::number(0));
         values.push(u64::from(last.number));
         let heard = done.unwrap_or_default();
@@ -72,7 +72,7 @@ fn answer(body: &mut Reader) -> Option<Answer> {
         });
         values.push(heard.dropped as u64);
     }
-    for link in &receiver.links {
+    for link in &run.receiver.links {
         values.push(u64::from(link.heard != 0));
         values.push(u64::from(link.index));
         values.push(u64::from(link.open != 0));
@@ -80,7 +80,8 @@ fn answer(body: &mut Reader) -> Option<Answer> {
     }
     let mut answer = Answer::refused(last);
     answer.values = values;
-    Some(answer.buffer(&buffer))
+    answer.added = run.added();
+    Some(answer.buffer(&run.buffer))
 }
 
 impl Script {
@@ -388,12 +389,15 @@ fn random_script(random: &mut Random) -> Vec<u8> {
     let kind = random.below(4);
     let receiver = match random.below(5) {
         _ if kind == 0 => nearly_full(random, p),
-        0 | 1 => Receiver::default(),
+        0..=2 => Receiver::default(),
         _ => record(random, p),
     };
     let mut source = Source::of(random, p, &receiver);
+    // Losses and repeats from the start on: long enough that much of it shows in the sums of E11.
+    let storm = kind > 1 && receiver == Receiver::default();
     let count = match random.below(10) {
         _ if p > 170 => LONGEST,
+        _ if storm => 12 + random.below(13) as usize,
         0..=6 => 2 + random.below(10) as usize,
         7 | 8 => 12 + random.below(12) as usize,
         _ => LONGEST,
@@ -888,6 +892,22 @@ mod tests {
             found[kind] += 1;
         }
         found
+    }
+
+    /// Among random scripts, many go from a fresh receiver through losses and repeats, so that it drops a unit.
+    #[test]
+    fn fresh_receivers_drop() {
+        let mut random = Random::new(5);
+        let (mut fresh, mut dropping) = (0, 0);
+        for _ in 0..1_000 {
+            let body = random_script(&mut random);
+            let script = Script::read(&mut Reader::new(&body)).unwrap();
+            if script.receiver == Receiver::default() {
+                fresh += 1;
+                dropping += usize::from(drops(&body) != [0; 3]);
+            }
+        }
+        assert!(fresh > 350 && dropping > 180, "{fresh}, {dropping}");
     }
 
     /// Among random scripts, units are dropped in each of the three ways in many.

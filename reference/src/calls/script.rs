@@ -13,6 +13,7 @@ use crate::packet::FRAMING;
 use crate::random::Random;
 use crate::reader::Reader;
 use crate::refusal::{Refusal, LONGEST_INPUT};
+use crate::runs::Sending;
 use crate::sender::{HandOut, Queue, Sender, Settings, QUEUES, QUEUE_BYTES, STORE_BYTES, UNITS};
 
 /// Its values have no names: each step has eight, and the sender 35.
@@ -73,21 +74,21 @@ impl Arguments for Script {
 
 fn answer(body: &mut Reader) -> Option<Answer> {
     let script = Script::read(body)?;
-    let mut sender = script.sender;
-    let (mut store, mut output) = (script.store.bytes(), script.output.bytes());
     if script.steps.len() > LONGEST || script.steps.iter().any(|step| step.kind > FRAME) {
         return None;
     }
+    let mut run = Sending::new(script.sender, script.store.bytes());
+    let mut output = script.output.bytes();
     let mut last = Refusal::number(0);
     let mut values = Vec::new();
     for step in &script.steps {
         let done = match step.kind {
-            LOAD => sender
-                .load(&step.settings, &mut store, step.id, &step.unit.bytes())
+            LOAD => run
+                .load(&step.settings, step.id, &step.unit.bytes())
                 .map(|()| HandOut::default()),
-            _ => sender.frame(&step.settings, &mut store, &mut output),
+            _ => run.frame(&step.settings, &mut output),
         };
-        last = done.err().unwrap_or(Refusal::number(0));
+        last = *done.as_ref().err().unwrap_or(&Refusal::number(0));
         let out = done.unwrap_or_default();
         values.push(u64::from(last.number));
         values.extend(out.packets);
@@ -95,10 +96,11 @@ fn answer(body: &mut Reader) -> Option<Answer> {
         values.push(u64::from(crc16(&output)));
         values.push(output.iter().map(|byte| u64::from(*byte)).sum());
     }
-    values.extend(values_of(&sender));
+    values.extend(values_of(&run.sender));
     let mut answer = Answer::refused(last);
     answer.values = values;
-    Some(answer.buffer(&store).buffer(&output))
+    answer.added = run.added();
+    Some(answer.buffer(&run.store).buffer(&output))
 }
 
 fn values_of(sender: &Sender) -> Vec<u64> {
@@ -468,6 +470,32 @@ fn steady(random: &mut Random) -> Script {
     Script::new(random, steps)
 }
 
+/// Queues that all have packets for many frames, or two of them: frame upon frame with spares, the settings
+/// changed between some, and loads and refused calls among them (document 02, E11).
+fn busy(random: &mut Random) -> Script {
+    let p = settings::busy_p(random);
+    let mut now = settings::busy(random, p);
+    let without = random.below(12);
+    let mut steps = Vec::new();
+    for id in (0..3).filter(|id| *id != without) {
+        let length = 600 + random.below(3_000) as usize;
+        steps.push(load(random, now, id, length));
+    }
+    let count = 7 + random.below(LONGEST as u64 - 6) as usize;
+    while steps.len() < count {
+        if random.one_in(3) {
+            now = settings::busy(random, p);
+        }
+        steps.push(match random.below(12) {
+            0 | 1 => random_step(random, now),
+            2 => load(random, now, 3, 1),
+            3 => frame(settings::of(p, 0, [0; 3], [1; 3])),
+            _ => frame(now),
+        });
+    }
+    Script::new(random, steps)
+}
+
 fn fixed(random: &mut Random) -> Vec<Vec<u8>> {
     let mut list = Vec::new();
     for settings in [
@@ -528,6 +556,7 @@ fn fixed(random: &mut Random) -> Vec<Vec<u8>> {
 fn random_script(random: &mut Random) -> Vec<u8> {
     let mut script = match random.below(8) {
         0 => changing(random),
+        1..=3 => busy(random),
         _ => steady(random),
     };
     if random.one_in(3) {

@@ -8,7 +8,9 @@ use crate::fields::{bodies, lines, Arguments, Fields};
 use crate::packet::{FRAMING, LARGEST_P};
 use crate::random::Random;
 use crate::reader::Reader;
+use crate::runs::Added;
 use crate::sender::{self, Settings, LONGEST_FRAME, QUEUES};
+use crate::spares::{Frame, Spares};
 
 pub const CHECK: Call = Call {
     code: 33,
@@ -94,10 +96,22 @@ fn hand_out(body: &mut Reader) -> Option<Answer> {
         turn,
     } = Waiting::read(body)?;
     let handed = sender::hand_out(&settings, waiting, turn);
-    Some(Answer::of(handed.map(|out| {
+    let mut spares = Spares::new();
+    if let Ok(out) = &handed {
+        let settings = &settings;
+        spares.frame(&Frame {
+            settings,
+            waiting,
+            turn,
+            out,
+        });
+    }
+    let mut answer = Answer::of(handed.map(|out| {
         let [first, second, third] = out.packets;
         [first, second, third, out.spares, out.filler, out.turn]
-    })))
+    }));
+    answer.added = Added::of_spares(&spares);
+    Some(answer)
 }
 
 /// The most packets that a frame can have.
@@ -220,6 +234,31 @@ pub fn good(random: &mut Random) -> Settings {
     settings
 }
 
+/// Good ones that leave spares and hardly any ceiling that stops a queue: where all have enough waiting, two or
+/// three of them can take every spare (document 02, E11).
+pub fn busy(random: &mut Random, p: u64) -> Settings {
+    let packets = 1 + random.below(most_packets(p).min(16));
+    let mut settings = of(p, packets, [0; 3], [packets; 3]);
+    let mut free = random.below(packets);
+    for share in &mut settings.shares {
+        *share = random.below(free + 1);
+        free -= *share;
+    }
+    let turned = random.below(3) as usize;
+    settings.shares.rotate_left(turned);
+    if random.one_in(3) {
+        let id = random.below(3) as usize;
+        let low = settings.shares[id] + random.below(3);
+        settings.ceilings[id] = low.clamp(1, packets);
+    }
+    settings
+}
+
+/// The p of busy settings: small, so that a queue has packets for many frames.
+pub fn busy_p(random: &mut Random) -> u64 {
+    1 + random.below(12)
+}
+
 fn fixed_checks(random: &mut Random) -> Vec<Vec<u8>> {
     let mut list: Vec<Check> = limits().into_iter().map(Check).collect();
     for p in [1, 2, 3, 4, 61, 254, LARGEST_P] {
@@ -319,6 +358,10 @@ mod tests {
         }
         for _ in 0..2_000 {
             assert_eq!(good(&mut random).check(), Ok(()));
+            let p = busy_p(&mut random);
+            let settings = busy(&mut random, p);
+            let shares: u64 = settings.shares.iter().sum();
+            assert!(settings.check().is_ok() && shares < settings.packets);
         }
     }
 

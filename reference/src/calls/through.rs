@@ -12,9 +12,9 @@ use crate::generate;
 use crate::packet::FRAMING;
 use crate::random::Random;
 use crate::reader::Reader;
-use crate::receiver::{Receiver, BUFFER_BYTES};
 use crate::refusal::{Refusal, LONGEST_INPUT};
-use crate::sender::{Sender, Settings, QUEUE_BYTES, STORE_BYTES, UNITS};
+use crate::runs::{Added, Hearing, Sending};
+use crate::sender::{Settings, QUEUE_BYTES, UNITS};
 
 /// Its values have no names: each step has five.
 pub const SCRIPT: Call = Call {
@@ -100,19 +100,15 @@ impl Arrived {
 
 /// Both ends of the stream.
 struct Ends {
-    sender: Sender,
-    store: Vec<u8>,
-    receiver: Receiver,
-    buffer: Vec<u8>,
+    sending: Sending,
+    hearing: Hearing,
 }
 
 impl Ends {
     fn fresh() -> Ends {
         Ends {
-            sender: Sender::default(),
-            store: vec![0; STORE_BYTES],
-            receiver: Receiver::default(),
-            buffer: vec![0; BUFFER_BYTES],
+            sending: Sending::fresh(),
+            hearing: Hearing::fresh(),
         }
     }
 
@@ -121,17 +117,24 @@ impl Ends {
         settings.check()?;
         let length = settings.p as usize + FRAMING;
         let mut frame = vec![0; settings.packets as usize * length];
-        self.sender.frame(settings, &mut self.store, &mut frame)?;
+        self.sending.frame(settings, &mut frame)?;
         let mut arrived = Arrived::default();
         for packet in frame.chunks(length) {
-            let heard = self.receiver.step(settings.p, &mut self.buffer, packet)?;
+            let heard = self.hearing.step(settings.p, packet)?;
             arrived.dropped += heard.dropped;
             if let Some(ended) = heard.ended {
-                let unit = ended.unit(&self.buffer).to_vec();
+                let unit = ended.unit(&self.hearing.buffer).to_vec();
                 arrived.units.push((ended.id, unit));
             }
         }
         Ok(arrived)
+    }
+
+    /// The spares of the one end and the balance of the other.
+    fn added(&self) -> Added {
+        let mut added = self.sending.added();
+        added.add(&self.hearing.added());
+        added
     }
 }
 
@@ -146,8 +149,8 @@ fn answer(body: &mut Reader) -> Option<Answer> {
     for step in &steps {
         let done = match step.kind {
             LOAD => ends
-                .sender
-                .load(&settings, &mut ends.store, step.id, &step.unit.bytes())
+                .sending
+                .load(&settings, step.id, &step.unit.bytes())
                 .map(|()| Arrived::default()),
             _ => ends.frame(&settings),
         };
@@ -157,6 +160,7 @@ fn answer(body: &mut Reader) -> Option<Answer> {
     }
     let mut answer = Answer::refused(last);
     answer.values = values;
+    answer.added = ends.added();
     Some(answer)
 }
 
@@ -326,7 +330,35 @@ fn overloaded(random: &mut Random) -> Vec<Step> {
         .collect()
 }
 
+/// Queues that all have packets for many frames, or two of them, with a short unit first that arrives soon
+/// (document 02, E11).
+fn busy(random: &mut Random) -> Run {
+    let p = settings::busy_p(random);
+    let settings = settings::busy(random, p);
+    let without = random.below(12);
+    let mut steps = Vec::new();
+    for id in (0..3).filter(|id| *id != without) {
+        for length in [1 + random.below(3 * p), 600 + random.below(3_000)] {
+            steps.push(load(random, id, length as usize));
+        }
+    }
+    let count = 12 + random.below(LONGEST as u64 - 11) as usize;
+    while steps.len() < count {
+        steps.push(match random.below(8) {
+            0 => {
+                let (id, length) = (random.below(3), drawn_length(random, p));
+                load(random, id, length)
+            }
+            _ => frame(),
+        });
+    }
+    Run { settings, steps }
+}
+
 fn random_run(random: &mut Random) -> Vec<u8> {
+    if random.one_in(5) {
+        return busy(random).body();
+    }
     let settings = drawn_settings(random);
     let count = match random.below(10) {
         0..=5 => 4 + random.below(10),
@@ -410,16 +442,17 @@ mod tests {
         let mut ends = Ends::fresh();
         for (id, length) in [(0, 5), (1, 9)] {
             let unit = vec![7; length];
-            let loaded = ends.sender.load(&settings, &mut ends.store, id, &unit);
-            assert_eq!(loaded, Ok(()));
+            assert_eq!(ends.sending.load(&settings, id, &unit), Ok(()));
         }
         let dropped = [false, true].map(|lost| {
             if lost {
-                ends.sender.indexes = ends.sender.indexes.map(|index| index + 1);
+                let indexes = &mut ends.sending.sender.indexes;
+                indexes.iter_mut().for_each(|index| *index += 1);
             }
             ends.frame(&settings).unwrap().values()
         });
         assert_eq!(dropped, [[0; 4], [0, 0, 0, 8]]);
+        assert_eq!(ends.added().differences, [""; 0]);
     }
 
     #[test]

@@ -1,0 +1,122 @@
+//! Runs at a sender and at a receiver: each call is handed what the last one left (document 01, "Packets, queues
+//! and receiver"), and what E11 of document 02 claims of such a run is added up beside it.
+
+use crate::balance::Balance;
+use crate::receiver::{Heard, Receiver, BUFFER_BYTES};
+use crate::refusal::Refusal;
+use crate::sender::{HandOut, Sender, Settings, STORE_BYTES};
+use crate::spares::{Frame, Spares};
+
+/// What was added up over a run.
+#[derive(Debug, Clone, Default, PartialEq, Eq)]
+pub struct Added {
+    /// Packets whose bytes are in the balance.
+    pub packets: u64,
+    /// Frames with spares, each of which two queues could both take; counted for each two such queues.
+    pub frames: u64,
+    /// Runs of two or more of these frames.
+    pub stretches: u64,
+    /// Where the run is not as E11 has it.
+    pub differences: Vec<String>,
+}
+
+impl Added {
+    pub fn of_spares(spares: &Spares) -> Added {
+        let (frames, stretches) = spares.met();
+        Added {
+            frames,
+            stretches,
+            differences: spares.differences().to_vec(),
+            ..Added::default()
+        }
+    }
+
+    fn of_balance(balance: &Balance) -> Added {
+        Added {
+            packets: balance.accepted(),
+            differences: balance.differences().to_vec(),
+            ..Added::default()
+        }
+    }
+
+    pub fn add(&mut self, other: &Added) {
+        self.packets += other.packets;
+        self.frames += other.frames;
+        self.stretches += other.stretches;
+        self.differences.extend_from_slice(&other.differences);
+    }
+}
+
+/// A sender with its store.
+pub struct Sending {
+    pub sender: Sender,
+    pub store: Vec<u8>,
+    spares: Spares,
+}
+
+impl Sending {
+    pub fn new(sender: Sender, store: Vec<u8>) -> Sending {
+        Sending {
+            sender,
+            store,
+            spares: Spares::new(),
+        }
+    }
+
+    pub fn fresh() -> Sending {
+        Sending::new(Sender::default(), vec![0; STORE_BYTES])
+    }
+
+    pub fn load(&mut self, settings: &Settings, id: u64, unit: &[u8]) -> Result<(), Refusal> {
+        self.sender.load(settings, &mut self.store, id, unit)
+    }
+
+    pub fn frame(&mut self, settings: &Settings, output: &mut [u8]) -> Result<HandOut, Refusal> {
+        let before = self.sender;
+        let out = self.sender.frame(settings, &mut self.store, output)?;
+        self.spares.frame(&Frame {
+            settings,
+            waiting: before.waiting(settings.p),
+            turn: before.turn,
+            out: &out,
+        });
+        Ok(out)
+    }
+
+    pub fn added(&self) -> Added {
+        Added::of_spares(&self.spares)
+    }
+}
+
+/// A receiver with its buffer.
+pub struct Hearing {
+    pub receiver: Receiver,
+    pub buffer: Vec<u8>,
+    balance: Balance,
+}
+
+impl Hearing {
+    pub fn new(receiver: Receiver, buffer: Vec<u8>) -> Hearing {
+        let balance = Balance::new(&receiver, &buffer);
+        Hearing {
+            receiver,
+            buffer,
+            balance,
+        }
+    }
+
+    pub fn fresh() -> Hearing {
+        Hearing::new(Receiver::default(), vec![0; BUFFER_BYTES])
+    }
+
+    pub fn step(&mut self, p: u64, packet: &[u8]) -> Result<Heard, Refusal> {
+        let done = self.receiver.step(p, &mut self.buffer, packet);
+        self.balance
+            .step((p, packet), &done, &self.receiver, &self.buffer);
+        done
+    }
+
+    pub fn added(&self) -> Added {
+        Added::of_balance(&self.balance)
+    }
+}
