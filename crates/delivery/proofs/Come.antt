@@ -7,16 +7,15 @@ use lib.ListN.{length}
 use Rattle.packet.specs.Packet.{Packet}
 use Rattle.row.specs.Content.{chunks, rests}
 use Rattle.receiver.specs.Receiver as receives
-use Rattle.receiver.specs.Line.{Line, lineOf}
+use Rattle.receiver.specs.Line.{Line, idle, lineThrough, unitsThrough, lineOf}
 use Rattle.demand.specs.Bytes.{numbered}
 use Rattle.demand.specs.Log.{Event, acceptedOf, sentOf, leftOf}
 use Rattle.demand.specs.Stream.{countOf, Stream}
 use Rattle.delivery.specs.Delivered.{freshEar, lineAt, hearAll}
 use Rattle.delivery.specs.Whole.{whollySent, deliveredIn, wholes, pendingIn}
-use Rattle.delivery.specs.Lines.{lineThrough, unitsThrough}
 use Rattle.delivery.proofs.Hear.{fresh-ok}
 use Rattle.delivery.proofs.Lines.{heard}
-use Rattle.delivery.proofs.Passing.{gone, idle, idle-linked, wholes-idle, wholes-length}
+use Rattle.delivery.proofs.Passing.{gone, idle-linked, wholes-idle, wholes-length}
 use Rattle.delivery.proofs.Lists.{front}
 
 pub fresh-line : (buffer : List ℕ) (id : ℕ) → lineAt (freshEar buffer) id ≡ idle

@@ -16,8 +16,9 @@ use Rattle.receiver.specs.declared.Link.{Link}
 use Rattle.receiver.specs.Link.{kept, nullOf, baseOf, joins, adds, completes, Fate, delivered, added, dropped, skipped, fateOf}
 use Rattle.receiver.specs.Bytes.{openOf, droppedBy, skippedBy, goneOf, droppedBytes, skippedBytes}
 use Rattle.receiver.specs.Receiver.{stepNumber}
-use Rattle.receiver.specs.Line.{Line, lineOf}
+use Rattle.receiver.specs.Line.{Line, idle, lineThrough, lineOf}
 use Rattle.receiver.specs.Dropped.{droppedIn, droppedFor, toldFor}
+use Rattle.receiver.specs.Skipped.{skippedIn, skippedFor}
 use Rattle.demand.specs.Bytes.{readable, own, ofId, indexAfter, numbered}
 use Rattle.demand.specs.Run.{Act, freshDesk}
 use Rattle.demand.specs.Log.{Event, log, Stands, acceptedOf, sentOf}
@@ -28,13 +29,12 @@ use Rattle.demand.proofs.Filler.{same-more}
 use Rattle.demand.proofs.Stream.{stream}
 use Rattle.demand.proofs.Reported.{reports}
 use Rattle.delivery.specs.Delivered.{Ear, freshEar, lineAt, hearAll}
-use Rattle.delivery.specs.Dropped.{skippedIn, skippedFor, Kept, AllKept}
+use Rattle.delivery.specs.Dropped.{Kept, AllKept}
 use Rattle.delivery.specs.Flow.{Linked}
-use Rattle.delivery.specs.Lines.{lineThrough}
 use Rattle.delivery.proofs.Hear.{fresh-ok, number-is, id-in}
 use Rattle.delivery.proofs.Lines.{heard}
 use Rattle.delivery.proofs.Step.{Fine, kept-is, adds-is, fine-of, null-some, null-more}
-use Rattle.delivery.proofs.Passing.{gone, idle, idle-linked, packets-more}
+use Rattle.delivery.proofs.Passing.{gone, idle-linked, packets-more}
 use Rattle.delivery.proofs.Come.{fresh-line}
 use Rattle.delivery.proofs.Loss.{apart}
 use Rattle.delivery.proofs.Right.{AllRight, right-at, sent-right}

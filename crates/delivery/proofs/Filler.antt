@@ -4,13 +4,12 @@ use mathlib.Core.Path.{_≡_, refl, ap, ap₂, _∙_}
 use mathlib.Core.List.{List, [], _++_}
 use lib.ListN.{length, replicate}
 use Rattle.packet.specs.Packet.{nothing}
-use Rattle.receiver.specs.Line.{Line, lineAfter}
+use Rattle.receiver.specs.Line.{Line, lineAfter, unitsThrough}
 use Rattle.demand.specs.Bytes.{numbered}
 use Rattle.demand.specs.Log.{Event, sentOf}
 use Rattle.demand.specs.Stream.{countOf, Stream}
 use Rattle.delivery.specs.Delivered.{freshEar, lineAt}
 use Rattle.delivery.specs.Whole.{deliveredIn}
-use Rattle.delivery.specs.Lines.{unitsThrough}
 use Rattle.delivery.proofs.Hear.{fresh-ok}
 use Rattle.delivery.proofs.Lines.{heard}
 use Rattle.delivery.proofs.Resumed.{null-units}

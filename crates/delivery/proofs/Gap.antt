@@ -5,12 +5,12 @@ use mathlib.Core.List.{List, [], _∷_, _++_, append-assoc}
 use native.Mathlib.Omega.{arith}
 use lib.ListN.{length, take, drop}
 use Rattle.packet.specs.Packet.{Packet}
+use Rattle.receiver.specs.Line.{unitsThrough}
 use Rattle.demand.specs.Bytes.{readable, own, ofId}
 use Rattle.demand.specs.Log.{Event, acceptedOf, sentOf}
 use Rattle.demand.specs.Stream.{Stream}
 use Rattle.demand.proofs.Packets.{of-append}
 use Rattle.delivery.specs.Delivered.{freshEar, lineAt, deliveredOf}
-use Rattle.delivery.specs.Lines.{unitsThrough}
 use Rattle.delivery.specs.Loss.{sentOver, cameOver, begins, ends, within, uncut}
 use Rattle.delivery.proofs.Hear.{fresh-ok}
 use Rattle.delivery.proofs.Lines.{heard}

@@ -1,30 +1,17 @@
 -- Packets one behind the other: each id's line takes those of its own, whatever comes between. Assumes nothing.
 use Prim.Native.Nat.{ℕ}
 use mathlib.Core.Path.{_≡_, refl, sym, ap, ap₂, _∙_, subst}
-use mathlib.Core.List.{List, [], _∷_, _++_, append-assoc, append-nil}
+use mathlib.Core.List.{List, [], _∷_, _++_, append-nil}
 use mathlib.Core.Bool.{Bool, true, false}
 use borrow.Author.Tests.{eqb-true, eqb-false}
 use lib.Dec.{eqb}
 use Rattle.packet.specs.Packet.{Packet, decode}
 use Rattle.packet.specs.Calls.{checkFor}
-use Rattle.receiver.specs.Line.{Line, lineAfter, unitsBy}
+use Rattle.receiver.specs.Line.{Line, lineAfter, unitsBy, lineThrough, unitsThrough}
+use Rattle.receiver.proofs.Lines.{through-append, units-append}
 use Rattle.delivery.specs.Delivered.{Ear, lineAt, hear, hearAll, unitBy, deliveredOf}
 use Rattle.demand.specs.Bytes.{readable, own}
-use Rattle.delivery.specs.Lines.{lineThrough, unitsThrough}
 use Rattle.delivery.proofs.Hear.{EarOk, came, refused-same, refused-none}
-
-pub through-append : (l : Line) (ks js : List Packet) → lineThrough l (ks ++ js) ≡ lineThrough (lineThrough l ks) js
-unfolding lineThrough
-through-append l [] js = refl
-through-append l (k ∷ ks) js = through-append (lineAfter l (k .index) (k .chunk)) ks js
-
-pub units-append : (l : Line) (ks js : List Packet) → unitsThrough l (ks ++ js) ≡ unitsThrough l ks ++ unitsThrough (lineThrough l ks) js
-unfolding unitsThrough lineThrough
-units-append l [] js = refl
-units-append l (k ∷ ks) js =
-    let m = lineAfter l (k .index) (k .chunk) in
-    ap (λ (us : List (List ℕ)). unitsBy l (k .index) (k .chunk) ++ us) (units-append m ks js)
-    ∙ sym (append-assoc (unitsBy l (k .index) (k .chunk)) (unitsThrough m ks) (unitsThrough (lineThrough m ks) js))
 
 -- ---- what the receiver does with byte strings, by what those of id among them say
 pub record Heard (p id : ℕ) (e : Ear) (ss : List (List ℕ)) : Type 0 where

@@ -12,20 +12,20 @@ use Rattle.laws.specs.Pick.{pick}
 use Rattle.packet.specs.Packet.{Chunk, Packet}
 use Rattle.row.specs.Content.{chunkOf, restOf, begunOf, rests, begunAfter, chunks}
 use Rattle.receiver.specs.Link.{kept, nullOf, adds, linkWith, linkAfter}
-use Rattle.receiver.specs.Line.{Line, lineAfter}
+use Rattle.receiver.specs.Line.{Line, idle, lineAfter, lineThrough, unitsThrough}
+use Rattle.receiver.proofs.Lines.{through-append, units-append}
 use Rattle.demand.specs.Bytes.{readable, own, ofId, indexAfter, numbered}
 use Rattle.demand.specs.Log.{Event, acceptedOf, sentOf}
 use Rattle.demand.specs.Stream.{Fair, countOf, Stream}
 use Rattle.demand.proofs.Packets.{of-append, index-add, numbered-length}
 use Rattle.demand.proofs.Chunks.{chunks-length, rests-add, begun-add}
 use Rattle.delivery.specs.Delivered.{freshEar, deliveredOf}
-use Rattle.delivery.specs.Lines.{lineThrough, unitsThrough}
 use Rattle.delivery.specs.Whole.{deliveredIn}
 use Rattle.delivery.specs.Loss.{Stretch, sentOver, cameOver, Short, begins, ends, within, uncut}
 use Rattle.delivery.proofs.Hear.{fresh-ok}
-use Rattle.delivery.proofs.Lines.{through-append, units-append, heard}
+use Rattle.delivery.proofs.Lines.{heard}
 use Rattle.delivery.proofs.Lists.{middle}
-use Rattle.delivery.proofs.Passing.{idle, packets-more}
+use Rattle.delivery.proofs.Passing.{packets-more}
 use Rattle.delivery.proofs.Come.{fresh-line}
 use Rattle.delivery.proofs.Resumed.{fromHere, resumed}
 

@@ -5,17 +5,15 @@ use mathlib.Core.List.{List, [], _∷_, _++_, append-assoc, append-nil}
 use mathlib.Core.Bool.{Bool, false, true≢false}
 use lib.ListN.{length}
 use Rattle.row.specs.Content.{chunkOf, restOf, begunOf, rests, begunAfter, chunks}
-use Rattle.receiver.specs.Link.{noLink}
-use Rattle.receiver.specs.Line.{Line, lineAfter, unitsBy}
+use Rattle.receiver.specs.Line.{Line, idle, lineAfter, unitsBy, lineThrough, unitsThrough}
+use Rattle.receiver.proofs.Lines.{through-append, units-append}
 use Rattle.demand.specs.Bytes.{indexAfter, numbered}
 use Rattle.demand.specs.Stream.{AllFit, Fair}
 use Rattle.demand.proofs.Packets.{numbered-append}
 use Rattle.demand.proofs.Chunks.{chunks-length}
 use Rattle.delivery.specs.Whole.{wholes}
 use Rattle.delivery.specs.Flow.{Linked}
-use Rattle.delivery.specs.Lines.{lineThrough, unitsThrough}
 use Rattle.delivery.proofs.Step.{passed}
-use Rattle.delivery.proofs.Lines.{through-append, units-append}
 
 -- the first n of them, and the next one
 pub packets-more : (p id i n : ℕ) (b : Bool) (us : List (List ℕ))
@@ -56,9 +54,6 @@ gone p id (suc n) us b i l k =
     }
 
 -- ---- a line with no unit open
-abbrev pub idle : Line
-idle = record { link = noLink; bytes = [] }
-
 pub idle-linked : (us : List (List ℕ)) (i : ℕ) → Fair us → Linked us false i idle
 unfolding wholes
 idle-linked us i f =

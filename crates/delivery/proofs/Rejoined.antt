@@ -13,13 +13,13 @@ use Rattle.row.specs.Content.{chunks, rests}
 use Rattle.receiver.specs.declared.Link.{Link}
 use Rattle.receiver.specs.Link.{brokenLink, noLink}
 use Rattle.receiver.specs.Receiver.{linkOf, broken}
+use Rattle.receiver.specs.Line.{unitsThrough}
 use Rattle.delivery.specs.Delivered.{Ear, lineAt, deliveredOf}
 use Rattle.demand.specs.Bytes.{ofId, numbered}
 use Rattle.demand.specs.Stream.{Fair}
 use Rattle.demand.specs.Condition.{piecesOf}
 use Rattle.demand.proofs.Drained.{drained-none}
 use Rattle.delivery.specs.Delivery.{Rejoined}
-use Rattle.delivery.specs.Lines.{unitsThrough}
 use Rattle.delivery.proofs.Hear.{LinkOk, EarOk}
 use Rattle.delivery.proofs.Lines.{heard}
 use Rattle.delivery.proofs.Resumed.{whole-from-any}

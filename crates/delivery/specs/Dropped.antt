@@ -3,23 +3,12 @@
 use Prim.Native.Nat.{ℕ}
 use mathlib.Core.Path.{_≡_}
 use mathlib.Core.List.{List, _∷_, _++_}
-use lib.Dec.{eqb}
 use lib.ListN.{length}
-use Rattle.laws.specs.Pick.{pick}
-use Rattle.packet.specs.Packet.{Packet, decode}
-use Rattle.receiver.specs.declared.Receiver.{Receiver}
-use Rattle.receiver.specs.Bytes.{skippedBytes}
-use Rattle.receiver.specs.Receiver.{linkOf, stepNumber}
+use Rattle.receiver.specs.Receiver.{stepNumber}
 use Rattle.receiver.specs.Dropped.{toldFor}
+use Rattle.receiver.specs.Skipped.{skippedFor}
 use Rattle.demand.specs.Log.{Event, sentOf}
 use Rattle.delivery.specs.Delivered.{Ear, freshEar, hearAll}
-
--- the useful bytes of an accepted packet that are skipped, since no unit has them; and of packet s: of a refused one none
-unfoldable pub skippedIn : Receiver → Packet → ℕ
-skippedIn r k = skippedBytes (linkOf r (k .id)) (k .index) (k .chunk .first) (k .chunk .last) (length (k .chunk .body))
-
-unfoldable pub skippedFor : ℕ → Receiver → List ℕ → ℕ → ℕ
-skippedFor p r s room = pick (eqb (stepNumber p r s room) 0) (skippedIn r (decode p s)) 0
 
 -- of packet s at a receiver: it is not refused, the step reports no dropped byte, and skips none
 pub record Kept (p : ℕ) (e : Ear) (s : List ℕ) : Type 0 where

@@ -3,5 +3,4 @@ pub mod Whole
 pub mod Loss
 pub mod Delivery
 pub mod Dropped
-pub mod Lines
 pub mod Flow

@@ -9,6 +9,7 @@ use lib.Dec.{eqb, lit<}
 use lib.ListN.{length, getD, take, drop, replicate, length-append, length-drop, length-replicate, take-append-drop, List·getD-map}
 use lib.Seq.{take-at, drop-at, drop-drop, length-take-le, take-append-le, drop-append-le}
 use Rattle.laws.specs.Pick.{pick}
+use Rattle.laws.specs.Sum.{sum}
 use Rattle.laws.specs.Refuse.{refusedWith}
 use Rattle.laws.specs.Written.{written}
 use Rattle.laws.proofs.Refuse.{free}
@@ -17,7 +18,7 @@ use Rattle.description.specs.declared.Description.{Description}
 use Rattle.description.specs.Bytes.{saidOf}
 use Rattle.places.specs.declared.Part.{Part}
 use Rattle.description.specs.Answers.{handed}
-use Rattle.places.specs.Parts.{sum, lengthsIn, usedBy, partsFrom, partsOf, badCapacity, noPart}
+use Rattle.places.specs.Parts.{lengthsIn, usedBy, partsFrom, partsOf, badCapacity, noPart}
 use Rattle.places.proofs.Placing.{lengths-eight}
 use Rattle.description.proofs.Tests.{four}
 use Rattle.description.proofs.Writing.{neither}

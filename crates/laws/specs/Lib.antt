@@ -3,6 +3,7 @@ pub mod Fields
 pub mod Limits
 pub mod Part
 pub mod Pick
+pub mod Sum
 pub mod Refuse
 pub mod Said
 pub mod Settle

@@ -11,12 +11,13 @@ use borrow.Author.Tests.{lt-ltb, le-ltb, le-leb, lt-leb, eqb-true}
 use lib.Dec.{eqb}
 use lib.ListN.{length, getD, replicate}
 use Rattle.laws.specs.Pick.{pick}
+use Rattle.laws.specs.Sum.{sum}
 use Rattle.laws.specs.Refuse.{refusedWith}
 use Rattle.description.specs.declared.Description.{Description}
 use Rattle.places.specs.declared.Part.{Part}
 use Rattle.places.specs.declared.Places.{Places}
 use Rattle.places.specs.Covering.{lies, covered, InOrder, allOf, Covers}
-use Rattle.places.specs.Parts.{sum, lengthsIn, usedBy, partsFrom, partsOf, paddingOf, layoutTests, noPart, layoutFor}
+use Rattle.places.specs.Parts.{lengthsIn, usedBy, partsFrom, partsOf, paddingOf, layoutTests, noPart, layoutFor}
 use Rattle.description.proofs.Meaning.{within}
 use Rattle.places.proofs.Placing.{room}
 

@@ -8,7 +8,8 @@ use lib.Dec.{leb, ltb}
 use lib.ListN.{length, getD}
 use Rattle.laws.specs.Pick.{pick}
 use Rattle.places.specs.declared.Part.{Part}
-use Rattle.places.specs.Parts.{sum, noPart}
+use Rattle.laws.specs.Sum.{sum}
+use Rattle.places.specs.Parts.{noPart}
 
 -- a position lies in a part
 abbrev pub lies : ℕ → Part → Bool

@@ -6,15 +6,12 @@ use mathlib.Core.List.{List, [], _∷_, _++_, map}
 use lib.Dec.{eqb, ltb}
 use lib.ListN.{replicate}
 use Rattle.laws.specs.Pick.{pick}
+use Rattle.laws.specs.Sum.{sum}
 use Rattle.laws.specs.Refuse.{Test, test, refusedWith}
 use Rattle.description.specs.declared.Description.{Description}
 use Rattle.places.specs.declared.Part.{Part}
 use Rattle.places.specs.declared.Places.{Places}
 use Rattle.description.specs.Answers.{handed}
-
-abbrev pub sum : List ℕ → ℕ
-sum [] = 0
-sum (n ∷ ns) = n + sum ns
 
 -- the lengths of the parts in the frame's order; the slots behind the streams have length 0
 unfoldable pub lengthsIn : Description → List ℕ

@@ -1,7 +1,7 @@
 -- Every useful byte of a packet is delivered, dropped, skipped or in the open unit. Assumes nothing.
 use Prim.Native.Nat.{ℕ, _+_}
-use mathlib.Core.Path.{_≡_, refl, sym}
-use mathlib.Core.Bool.{Bool, true, false, not, _&&_, true≢false}
+use mathlib.Core.Path.{_≡_, refl, sym, _∙_}
+use mathlib.Core.Bool.{Bool, true, false, not, _&&_, _||_, true≢false}
 use native.Mathlib.Omega.{arith}
 use borrow.Author.Tests.{eqb-true}
 use lib.Dec.{leb, eqb}
@@ -9,6 +9,7 @@ use Rattle.laws.specs.Pick.{pick}
 use Rattle.receiver.specs.declared.Link.{Link}
 use Rattle.receiver.specs.Link.{kept, nullOf, baseOf, joins, adds, completes, Fate, delivered, added, dropped, skipped, fateOf, linkWith, linkAfter}
 use Rattle.receiver.specs.Bytes.{openOf, deliveredBy, droppedBy, skippedBy, goneOf, deliveredBytes, droppedBytes, skippedBytes}
+use Rattle.receiver.specs.Skipped.{Skipping}
 
 -- the fate, with j: the packet belongs to a unit; v: the unit does not pass 4,096 bytes; t: the last flag
 abbrev fate : Bool → Bool → Bool → Fate
@@ -71,11 +72,21 @@ unfolding nullOf
 null-first true t n e = refl
 null-first false t n e = e
 
-null-none : (f t : Bool) (n : ℕ) → nullOf f t n ≡ true → n ≡ 0
+pub null-none : (f t : Bool) (n : ℕ) → nullOf f t n ≡ true → n ≡ 0
 unfolding nullOf
 null-none true true n e = eqb-true n 0 e
 null-none true false n e = absurd (true≢false (sym e))
 null-none false t n e = absurd (true≢false (sym e))
+
+pub skipping : Skipping
+unfolding skippedBytes fateOf completes adds joins
+skipping l i f t n =
+    skipped-is (not (nullOf f t n) && pick f true (kept l i)) (leb (baseOf l f + n) 4096) t n ∙ go (nullOf f t n) f (kept l i) (null-none f t n)
+  where
+    go : (z f k : Bool) → (z ≡ true → n ≡ 0) → pick (not z && pick f true k) 0 n ≡ pick (z || f || k) 0 n
+    go true f k e = e refl
+    go false true k e = refl
+    go false false k e = refl
 
 -- one packet of n useful bytes: with the bytes of the open unit before it they are what it delivers, drops and leaves open, and what is skipped
 pub balance : (l : Link) (i : ℕ) (f t : Bool) (n : ℕ)

@@ -1,4 +1,5 @@
 pub mod Links
+pub mod Lines
 pub mod Steps
 pub mod Balance
 pub mod Examples

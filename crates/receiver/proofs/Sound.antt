@@ -56,7 +56,7 @@ pub none-fine : brokenLink noLink ≡ false
 unfolding brokenLink
 none-fine = refl
 
-fresh-links : (j : ℕ) → linkOf fresh j ≡ noLink
+pub fresh-links : (j : ℕ) → linkOf fresh j ≡ noLink
 unfolding fresh
 fresh-links zero = refl
 fresh-links (suc zero) = refl

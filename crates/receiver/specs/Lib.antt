@@ -6,4 +6,5 @@ pub mod Run
 pub mod Rules
 pub mod Dropped
 pub mod Dropping
+pub mod Skipped
 pub mod Private
