@@ -2,8 +2,9 @@
 use Prim.Native.Nat.{ℕ, zero, suc}
 use native.Mathlib.Omega.{arith}
 use mathlib.Core.Path.{_≡_, refl}
+use mathlib.Core.Bool.{true}
 use mathlib.Core.List.{List, [], _∷_}
-use Rattle.hand.specs.Hand.{free, give, givenTo, firstFree, taker, giveOne, takers, spread, handOut, spareIds, planFor}
+use Rattle.hand.specs.Hand.{free, give, givenTo, firstFree, taker, giveOne, takers, spread, sharesMet, handOut, capOf, spareIds, planFor}
 use Rattle.hand.specs.Spares.{planAt, BothBelow, stepsTo, ahead}
 use Rattle.hand.specs.declared.Three.{Three}
 use Rattle.hand.specs.declared.Settings.{Settings}
@@ -46,3 +47,14 @@ narrow = record { p = 97; n = 2; share = three 0 1 0; ceiling = three 2 2 2 }
 pub not-of-two : Hands narrow (three 30 2 30) 0 (0 ∷ []) 1 × Hands narrow (three 29 1 30) 1 (2 ∷ []) 0
 unfolding free give givenTo firstFree taker giveOne takers spread handOut spareIds planFor
 not-of-two = ((refl, refl), (refl, refl))
+
+-- a hand-out that begins at turn 0 each time, that looks for the lowest id, or that leaves the turn at the queue that got the spare: queue 0 gets
+-- two in a row, though queue 1 could take each of them
+abbrev all : Three
+all = three 20 20 20
+
+pub two-in-a-row :
+    (taker (capOf ten all) (sharesMet (ten .share) all 0) ≡ 0 ∷ []) × (taker (capOf ten all) (record { packets = three 4 3 2; turn = 0 }) ≡ 0 ∷ [])
+    × (free (capOf ten all) (record { packets = three 4 3 2; turn = 0 }) 1 ≡ true)
+unfolding free firstFree taker
+two-in-a-row = (refl, refl, refl)

@@ -3,7 +3,7 @@
 use Prim.Native.Nat.{ℕ, _+_, _-_, _<_, _≤_, min}
 use mathlib.Core.Path.{_≡_, refl, sym, ap, _∙_}
 use mathlib.Core.Bool.{Bool, true, false}
-use mathlib.Core.List.{List, [], _∷_, _++_}
+use mathlib.Core.List.{List, [], _∷_}
 use native.Mathlib.Omega.{arith}
 use borrow.Author.Tests.{eqb-true, eq-eqb}
 use lib.Dec.{eqb}
@@ -21,10 +21,10 @@ use Rattle.hand.proofs.Alternate.{ahead-one, alternate, below-before}
 use Rattle.sender.specs.State.{putQueue, waitingOf}
 use Rattle.sender.specs.Load.{loadNumber, loadFor, loaded}
 use Rattle.sender.specs.Frame.{handOf, framed, nextFrom, frameNumber, frameFor}
-use Rattle.demand.specs.Run.{Act, load, frame, Desk, settingsOf, numberOf, after, run, answer}
+use Rattle.demand.specs.Run.{Act, load, frame, Desk, numberOf, after, run, answer}
 use Rattle.demand.proofs.Counted.{frame-allowed, reported, steps-reported, spares-reported}
 use Rattle.fair.specs.Spares.{waitsBefore, stepsBy, sparesBy, sparesIn, sumOver, gotBy, beyondBy}
-use Rattle.fair.specs.Fair.{Frames, Busy, LeftOver, Level, FairSpares, Reports}
+use Rattle.fair.specs.Fair.{EachFrame, Busy, Left, Met, Level, SparesAreFair, LeftIsBusy, StepsAreReported}
 
 -- ---- a call
 load-turn : (g : Settings) (id : ℕ) (unit : List ℕ) (x : Desk) → after (load g id unit) x .state .turn ≡ x .state .turn
@@ -84,7 +84,7 @@ module _ (i j : ℕ) (hi : i < 3) (hj : j < 3) where
       omega (arith, here, rest, count-append i (sparesBy a x) (sparesIn acts (after a x)), count-append j (sparesBy a x) (sparesIn acts (after a x)))
 
 -- ---- what a frame reports
-pub reports : (g : Settings) (out : List ℕ) (x : Desk) → numberOf (frame g out) x ≡ 0 → Reports g out x
+pub reports : StepsAreReported
 unfolding sparesBy stepsBy
 reports g out x z =
     let e = eq-eqb (numberOf (frame g out) x) 0 z in
@@ -94,7 +94,7 @@ reports g out x z =
     }
 
 -- ---- sums of what is reported
-load-none : (i : ℕ) (g : Settings) (id : ℕ) (unit : List ℕ) (x : Desk) → gotBy i (load g id unit) x ≡ 0
+pub load-none : (i : ℕ) (g : Settings) (id : ℕ) (unit : List ℕ) (x : Desk) → gotBy i (load g id unit) x ≡ 0
 unfolding answer
 load-none i g id unit x = none (eqb i 0) (eqb i 1)
   where
@@ -141,8 +141,7 @@ module _ (i j : ℕ) (hi : i < 3) (hj : j < 3) where
   load-level g id unit x = rw (load-spares g id unit x, load-none i g id unit x, load-none j g id unit x)
 
   frame-level : (g : Settings) (out : List ℕ) (x : Desk)
-      → (numberOf (frame g out) x ≡ 0
-      → (at (g .share) i ≡ at (g .share) j) × (at (g .share) i ≤ at (waitsBefore (frame g out) x) i) × (at (g .share) j ≤ at (waitsBefore (frame g out) x) j))
+      → (numberOf (frame g out) x ≡ 0 → (at (g .share) i ≡ at (g .share) j) × Met i g out x × Met j g out x)
       → pick (eqb (numberOf (frame g out) x) 0) (gotBy i (frame g out) x) 0 + countOf j (sparesBy (frame g out) x)
       ≡ pick (eqb (numberOf (frame g out) x) 0) (gotBy j (frame g out) x) 0 + countOf i (sparesBy (frame g out) x)
   frame-level g out x k = go (eqb (numberOf (frame g out) x) 0) refl
@@ -173,30 +172,29 @@ module _ (i j : ℕ) (hi : i < 3) (hj : j < 3) where
       let rest = level-in acts (after a x) (k .1) in
       omega (arith, here, rest, count-append i (sparesBy a x) (sparesIn acts (after a x)), count-append j (sparesBy a x) (sparesIn acts (after a x)))
 
-  -- ---- the statement
-  pub fair-spares : (acts : List Act) (x : Desk) → Busy i j acts x → FairSpares i j acts x
-  fair-spares acts x k =
-      let e = run-alike i j hi hj acts x k in
-      let a = ahead-one i j (x .state .turn) in
-      let b = ahead-one i j (run acts x .state .turn) in
-      let ri = beyond-in i hi acts x in
-      let rj = beyond-in j hj acts x in
-      record {
-        spares = (omega (arith, e, a, b), omega (arith, e, a, b));
-        reported = (omega (arith, e, a, b, ri, rj), omega (arith, e, a, b, ri, rj));
-        packets = λ l. let t = level-in acts x l in (omega (arith, e, a, b, t), omega (arith, e, a, b, t));
-        turn = e;
-      }
+-- ---- the statement
+pub fair-spares : SparesAreFair
+fair-spares i j hi hj acts x k =
+    let e = run-alike i j hi hj acts x k in
+    let a = ahead-one i j (x .state .turn) in
+    let b = ahead-one i j (run acts x .state .turn) in
+    let ri = beyond-in i hi acts x in
+    let rj = beyond-in j hj acts x in
+    record {
+      spares = (omega (arith, e, a, b), omega (arith, e, a, b));
+      reported = (omega (arith, e, a, b, ri, rj), omega (arith, e, a, b, ri, rj));
+      packets = λ l. let t = level-in i j hi hj acts x l in (omega (arith, e, a, b, t), omega (arith, e, a, b, t));
+      turn = e;
+    }
 
--- ---- what a log shows
+-- ---- where packets are left over
 weaker : (P Q : Settings → List ℕ → Desk → Type 0) → ((g : Settings) (out : List ℕ) (x : Desk) → numberOf (frame g out) x ≡ 0 → P g out x → Q g out x)
-    → (acts : List Act) (x : Desk) → Frames P acts x → Frames Q acts x
+    → (acts : List Act) (x : Desk) → EachFrame P acts x → EachFrame Q acts x
 weaker P Q f [] x k = tt
 weaker P Q f (load g id unit ∷ acts) x k = weaker P Q f acts (after (load g id unit) x) k
 weaker P Q f (frame g out ∷ acts) x k = (λ z. f g out x z (k .0 z), weaker P Q f acts (after (frame g out) x) (k .1))
 
-at-end : (i : ℕ) (g : Settings) (out : List ℕ) (x : Desk) → numberOf (frame g out) x ≡ 0
-    → gotBy i (frame g out) x < min (at (waitsBefore (frame g out) x) i) (at (g .ceiling) i)
+at-end : (i : ℕ) (g : Settings) (out : List ℕ) (x : Desk) → numberOf (frame g out) x ≡ 0 → Left i g out x
     → at (planFor g (waitsBefore (frame g out) x) (x .state .turn) .packets) i < at (capOf g (waitsBefore (frame g out) x)) i
 unfolding handOf
 at-end i g out x z h =
@@ -206,6 +204,6 @@ at-end i g out x z h =
     let c : at (capOf g w) i ≡ min (at w i) (at (g .ceiling) i) = low-at w (g .ceiling) i in
     omega (arith, h, a, b, c)
 
-pub left-busy : (i j : ℕ) (acts : List Act) (x : Desk) → LeftOver i j acts x → Busy i j acts x
+pub left-busy : LeftIsBusy
 left-busy i j =
     weaker _ _ (λ g out x z k m l t. (below-before g _ _ i (at-end i g out x z (k .0)) m l, below-before g _ _ j (at-end j g out x z (k .1)) m l))
