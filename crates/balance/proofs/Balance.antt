@@ -1,7 +1,7 @@
 -- The balance of bytes of any steps from the fresh record (E11 of 02). Assumes nothing.
 use Prim.Native.Nat.{ℕ, zero, suc, _+_, _<_}
 use mathlib.Core.Path.{_≡_, refl, ap}
-use mathlib.Core.List.{List, [], _∷_, _++_}
+use mathlib.Core.List.{List, [], _∷_, _++_, map}
 use mathlib.Core.Bool.{Bool}
 use native.Mathlib.Omega.{arith}
 use lib.Dec.{eqb}
@@ -12,10 +12,10 @@ use Rattle.receiver.specs.Receiver.{fresh}
 use Rattle.receiver.specs.Bytes.{openOf}
 use Rattle.receiver.specs.Run.{Input, afterAll}
 use Rattle.receiver.proofs.Sound.{fresh-fine}
-use Rattle.balance.specs.History.{toldAt, usefulAt, lengthBy, deliveredAt, droppedAt, skippedAt, sumOf, gatherOf, takenOf, unitLengths, openIn, ofFour, openOver, openHeld}
+use Rattle.balance.specs.History.{toldAt, usefulAt, lengthBy, deliveredAt, droppedAt, skippedAt, sumOf, gatherOf, takenOf, unitLengths, unitsIn, lostIn, openIn, missedIn, ofFour, openOver, openHeld}
 use Rattle.balance.specs.Balance.{Balance}
 use Rattle.balance.proofs.Sums.{none, from-any}
-use Rattle.balance.proofs.Gathered.{units-are, lost-are, open-are}
+use Rattle.balance.proofs.Gathered.{units-are, lost-are, missed-are, open-are}
 
 fresh-open : (ids : ℕ → Bool) → openHeld ids fresh ≡ 0
 unfolding openHeld ofFour fresh openOf
@@ -50,14 +50,20 @@ delivered-sum id [] r = refl
 delivered-sum id (g ∷ gs) r =
     omega (arith, sum-append (lengthBy (eqb id) (toldAt r g .answer)) (unitLengths id gs (toldAt r g .next)), delivered-sum id gs (toldAt r g .next))
 
+id-bytes : (gs : List Input) (id : ℕ) → id < 4
+    → sumOf (usefulAt (eqb id)) gs fresh
+    ≡ sum (map length (unitsIn (takenOf id gs fresh))) + length (lostIn (takenOf id gs fresh)) + length (openIn (takenOf id gs fresh)) + length (missedIn (takenOf id gs fresh))
+id-bytes gs id h =
+    omega (arith, bytes-are gs (eqb id), open-one gs id h, ap sum (units-are id gs), delivered-sum id gs fresh, lost-are id gs, missed-are id gs)
+
 -- ---- the statement
 pub balanced : (gs : List Input) → Balance gs
 balanced gs =
     record {
       bytes = bytes-are gs;
-      gathered = λ id h.
-          omega (arith, bytes-are gs (eqb id), open-one gs id h, ap sum (units-are id gs), delivered-sum id gs fresh, lost-are id gs);
+      gathered = id-bytes gs;
       units = λ id. units-are id gs;
       lost = λ id. lost-are id gs;
+      missed = λ id. missed-are id gs;
       held = λ id. open-are id gs;
     }

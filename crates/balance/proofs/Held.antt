@@ -3,7 +3,7 @@
 use Prim.Native.Nat.{ℕ, _+_}
 use mathlib.Core.Path.{_≡_, refl, sym, ap, ap₂, _∙_}
 use mathlib.Core.List.{[], _∷_, map}
-use mathlib.Core.Bool.{Bool, true, false, not, _&&_}
+use mathlib.Core.Bool.{Bool, true, false, not, _&&_, _||_}
 use lib.Dec.{leb, eqb}
 use lib.ListN.{length, length-append}
 use Rattle.laws.specs.Pick.{pick}
@@ -12,9 +12,10 @@ use Rattle.packet.specs.Packet.{Chunk}
 use Rattle.receiver.specs.declared.Link.{Link}
 use Rattle.receiver.specs.Link.{kept, nullOf, baseOf, joins, adds, completes, delivered, added, dropped, skipped, fateOf, linkWith, linkAfter}
 use Rattle.receiver.specs.Receiver.{answerBy}
-use Rattle.receiver.specs.Bytes.{openOf, droppedBy, goneOf, droppedBytes}
+use Rattle.receiver.specs.Bytes.{openOf, droppedBy, goneOf, droppedBytes, skippedBytes}
 use Rattle.receiver.specs.Line.{Line, grown, lineAfter, unitsBy}
-use Rattle.balance.specs.History.{lengthBy, overBy, lostBy}
+use Rattle.receiver.proofs.Balance.{skipping}
+use Rattle.balance.specs.History.{lengthBy, overBy, lostBy, missedBy}
 
 abbrev pub Held : Line → Type 0
 Held l = length (l .bytes) ≡ openOf (l .link)
@@ -105,3 +106,13 @@ module _ (l : Line) (i : ℕ) (c : Chunk) (h : Held l) where
       over true e true false = refl
       over true e false t = joined-length e
       over false e v t = refl
+
+-- the bytes of a packet that is skipped
+pub missed-length : (l : Line) (i : ℕ) (c : Chunk) → length (missedBy l i c) ≡ skippedBytes (l .link) i (c .first) (c .last) (length (c .body))
+unfolding missedBy
+missed-length l i c =
+    go (nullOf (c .first) (c .last) (length (c .body)) || c .first || kept (l .link) i) ∙ sym (skipping (l .link) i (c .first) (c .last) (length (c .body)))
+  where
+    go : (b : Bool) → length (pick b [] (c .body)) ≡ pick b 0 (length (c .body))
+    go true = refl
+    go false = refl

@@ -14,7 +14,7 @@ use Rattle.receiver.specs.Link.{kept, nullOf}
 use Rattle.receiver.specs.Receiver.{linkOf, fresh}
 use Rattle.receiver.specs.Bytes.{openOf}
 use Rattle.receiver.specs.Run.{Input, afterAll}
-use Rattle.balance.specs.History.{saysAt, acceptedAt, toldAt, usefulAt, deliveredAt, droppedAt, skippedAt, sumOf, takenOf, unitLengths, unitsIn, lostIn, openIn, openOver, openHeld}
+use Rattle.balance.specs.History.{saysAt, acceptedAt, toldAt, usefulAt, deliveredAt, droppedAt, skippedAt, sumOf, takenOf, unitLengths, unitsIn, lostIn, openIn, missedIn, openOver, openHeld}
 
 -- all ids; of one alone, `eqb id`
 abbrev pub allIds : ℕ → Bool
@@ -26,15 +26,17 @@ pub record Balance (gs : List Input) : Type 0 where
   pub bytes : (ids : ℕ → Bool)
       → sumOf (usefulAt ids) gs fresh
       ≡ sumOf (deliveredAt ids) gs fresh + sumOf (droppedAt ids) gs fresh + openOver ids gs fresh + sumOf (skippedAt ids) gs fresh
-  -- the same of each id with the bytes themselves, put together from its packets: of the units, of what is lost, of the open unit
+  -- the same of each id with the bytes themselves, put together from its packets and nothing else: of the units, of what is lost, of the
+  -- open unit, of what no unit has
   pub gathered : (id : ℕ) → id < 4
-      → sumOf (usefulAt (eqb id)) gs fresh
-      ≡ sum (map length (unitsIn (takenOf id gs fresh))) + length (lostIn (takenOf id gs fresh)) + length (openIn (takenOf id gs fresh))
-      + sumOf (skippedAt (eqb id)) gs fresh
+      → let ks = takenOf id gs fresh in
+      sumOf (usefulAt (eqb id)) gs fresh ≡ sum (map length (unitsIn ks)) + length (lostIn ks) + length (openIn ks) + length (missedIn ks)
   -- the lengths in the answers are those of the units put together
   pub units : (id : ℕ) → map length (unitsIn (takenOf id gs fresh)) ≡ unitLengths id gs fresh
   -- the bytes reported as dropped are as many as those lost
   pub lost : (id : ℕ) → length (lostIn (takenOf id gs fresh)) ≡ sumOf (droppedAt (eqb id)) gs fresh
+  -- and those skipped
+  pub missed : (id : ℕ) → length (missedIn (takenOf id gs fresh)) ≡ sumOf (skippedAt (eqb id)) gs fresh
   -- the record's length is that of the open unit put together; and none is, where it has none open
   pub held : (id : ℕ) → length (openIn (takenOf id gs fresh)) ≡ openOf (linkOf (afterAll gs fresh) id)
 

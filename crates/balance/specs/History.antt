@@ -2,7 +2,7 @@
 -- length may change from step to step. A refused packet counts nowhere. Assumes nothing.
 use Prim.Native.Nat.{ℕ, _+_}
 use mathlib.Core.List.{List, [], _∷_, _++_}
-use mathlib.Core.Bool.{Bool, true, not, _&&_}
+use mathlib.Core.Bool.{Bool, true, not, _&&_, _||_}
 use lib.Dec.{eqb}
 use lib.ListN.{length}
 use Rattle.laws.specs.Pick.{pick}
@@ -86,20 +86,27 @@ lostBy l i c =
     pick (kept (l .link) i && pick (nullOf (c .first) (c .last) n) true (not (c .first))) [] (l .bytes)
     ++ overBy (fateOf (l .link) i (c .first) (c .last) n) (grown l c)
 
--- those of all packets, one behind the other
-unfoldable pub lostThrough : Line → List Packet → List ℕ
-lostThrough l [] = []
-lostThrough l (k ∷ ks) = lostBy l (k .index) (k .chunk) ++ lostThrough (lineAfter l (k .index) (k .chunk)) ks
+-- the useful bytes of a packet that is skipped: it is neither null nor first, and no unit is open after the index test
+unfoldable pub missedBy : Line → ℕ → Chunk → List ℕ
+missedBy l i c = pick (nullOf (c .first) (c .last) (length (c .body)) || c .first || kept (l .link) i) [] (c .body)
 
--- the units that packets of an id complete, the bytes that they drop, and those of the unit that is open behind them
+-- the bytes that f gives of each packet, one behind the other
+unfoldable pub bytesThrough : (Line → ℕ → Chunk → List ℕ) → Line → List Packet → List ℕ
+bytesThrough f l [] = []
+bytesThrough f l (k ∷ ks) = f l (k .index) (k .chunk) ++ bytesThrough f (lineAfter l (k .index) (k .chunk)) ks
+
+-- the units that packets of an id complete, the bytes that they drop, those of the unit that is open behind them, and those skipped
 abbrev pub unitsIn : List Packet → List (List ℕ)
 unitsIn ks = unitsThrough idle ks
 
 abbrev pub lostIn : List Packet → List ℕ
-lostIn ks = lostThrough idle ks
+lostIn ks = bytesThrough lostBy idle ks
 
 abbrev pub openIn : List Packet → List ℕ
 openIn ks = lineThrough idle ks .bytes
+
+abbrev pub missedIn : List Packet → List ℕ
+missedIn ks = bytesThrough missedBy idle ks
 
 -- ---- open bytes of the ids that count: gathered from the packets of a history, and as a record has them
 unfoldable pub ofFour : (ℕ → Bool) → (ℕ → ℕ) → ℕ
