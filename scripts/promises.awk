@@ -80,9 +80,21 @@ function read_ground(    n, i, k, cell, crate, word) {
     }
 }
 
+# and of the theorems that a wrong definition loses: their edits
+function read_loss(    n, cell, crate) {
+    n = split($0, cell, "|")
+    crate = cell[2]
+    gsub(/[ `]/, "", crate)
+    if (n >= 5 && crate != "crate" && crate !~ /^-/) name_edits(crate, cell[4], 1)
+}
+
 FILENAME ~ /PROMISES\.md$/ {
-    if (/^## /) without = /^## Calls without/
-    if (/^\|/ && without) read_ground()
+    if (/^## /) {
+        without = /^## Calls without/
+        losing = /^## Theorems that a wrong definition loses/
+    }
+    if (/^\|/ && losing) read_loss()
+    else if (/^\|/ && without) read_ground()
     else if (/^\|/) read_call()
     next
 }

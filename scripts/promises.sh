@@ -6,7 +6,8 @@
 # A theorem counts where its statement is the promise: each of its parts, read with `i` and `o` as unknowns, is word for word a part of an `ensures` of
 # the call; the same unknown stands for the same term all through, one of `o` for the answer or for a lent place at the exit, one of `i` for nothing of the
 # kind. What the theorem then settles is what its `o` stand for.
-# A row of a function that is not there, an edit that a row's last column names and that is not there, and one that no row names, fail too.
+# A row of a function that is not there, an edit that a row's last column names and that is not there, and one that no row names, fail too. Edits of
+# definitions that no call's promise names stand in the rows of "Theorems that a wrong definition loses".
 # The rows of "Calls without a full promise" excuse from the second, and from having an `ensures` only where they say "safe and ending, no more"; a row
 # without grounds excuses nothing.
 # The last line is 'N passed, M failed'; status 0 only where M is 0.
