@@ -204,6 +204,9 @@ at-end i g out x z h =
     let c : at (capOf g w) i ≡ min (at w i) (at (g .ceiling) i) = low-at w (g .ceiling) i in
     omega (arith, h, a, b, c)
 
+pub left-below : (i j : ℕ) (g : Settings) (out : List ℕ) (x : Desk) → numberOf (frame g out) x ≡ 0 → Left i g out x × Left j g out x
+    → BothBelow g (waitsBefore (frame g out) x) (x .state .turn) i j
+left-below i j g out x z k m l t = (below-before g _ _ i (at-end i g out x z (k .0)) m l, below-before g _ _ j (at-end j g out x z (k .1)) m l)
+
 pub left-busy : LeftIsBusy
-left-busy i j =
-    weaker _ _ (λ g out x z k m l t. (below-before g _ _ i (at-end i g out x z (k .0)) m l, below-before g _ _ j (at-end j g out x z (k .1)) m l))
+left-busy i j = weaker _ _ (left-below i j)

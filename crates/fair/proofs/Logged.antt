@@ -22,8 +22,8 @@ use Rattle.demand.proofs.Turn.{waits-seen, turn-seen}
 use Rattle.demand.proofs.Parts.{parted, stands-front, stands-back}
 use Rattle.fair.specs.Spares.{waitsBefore, sumOver, gotBy, beyondBy}
 use Rattle.fair.specs.Fair.{EachFrame, Busy, Left, Met, Level, Close}
-use Rattle.fair.specs.Logged.{Throughout, ofWritten, allWritten, reportedOf, beyondOf, StillBelow, ShareWaits, FairIn, FairLog}
-use Rattle.fair.proofs.Fair.{load-none, fair-spares, left-busy}
+use Rattle.fair.specs.Logged.{Throughout, ofWritten, allWritten, reportedOf, beyondOf, BusyIn, StillBelow, StillIn, ShareWaits, LevelIn, FairIn, FairLog}
+use Rattle.fair.proofs.Fair.{load-none, fair-spares, left-below}
 
 module _ (p : ℕ) (store : List ℕ) (hs : length store ≡ 12288) where
   abbrev X : Desk
@@ -77,6 +77,21 @@ module _ (p : ℕ) (store : List ℕ) (hs : length store ≡ 12288) where
           frames-back acts (es ++ (eventOf a y ∷ [])) (after a y) (sees-next es y k a (st .0)) (st .1) (t .1),
         )
 
+  module _ (P Q : Settings → Answer → List Event → Type 0)
+      (so : (g : Settings) (out : List ℕ) (es : List Event) (y : Desk) → Sees es y → g .p ≡ p → numberOf (frame g out) y ≡ 0 → P g (answer (frame g out) y) es
+      → Q g (answer (frame g out) y) es) where
+    throughout-so : (acts : List Act) (es : List Event) (y : Desk) → Sees es y → Stands p (log acts y) → Throughout P es (log acts y) → Throughout Q es (log acts y)
+    unfolding events answers
+    throughout-so [] es y k st t = tt
+    throughout-so (load g id unit ∷ acts) es y k st t =
+        let a = load g id unit in
+        (tt, throughout-so acts (es ++ (eventOf a y ∷ [])) (after a y) (sees-next es y k a (st .0)) (st .1) (t .1))
+    throughout-so (frame g out ∷ acts) es y k st t =
+        let a = frame g out in (
+          λ z. so g out es y k (st .0 z) (sym (number-is a y) ∙ z) (t .0 z),
+          throughout-so acts (es ++ (eventOf a y ∷ [])) (after a y) (sees-next es y k a (st .0)) (st .1) (t .1),
+        )
+
   module _ (f : Settings → Answer → List Event → ℕ) (h : Act → Desk → ℕ) (none : (g : Settings) (id : ℕ) (unit : List ℕ) (y : Desk) → h (load g id unit) y ≡ 0)
       (same : (g : Settings) (out : List ℕ) (es : List Event) (y : Desk) → Sees es y → g .p ≡ p → f g (answer (frame g out) y) es ≡ h (frame g out) y) where
     one-same : (a : Act) (es : List Event) (y : Desk) → Sees es y → (answer a y .number ≡ 0 → settingsOf a .p ≡ p)
@@ -110,9 +125,8 @@ module _ (p : ℕ) (store : List ℕ) (hs : length store ≡ 12288) where
     waits-same : (i : ℕ) → i < 3 → at (waitsBefore (frame g out) y) i ≡ waitingAt p i es
     waits-same i h = ap (λ (q : ℕ). at (waitingOf q (y .state)) i) e ∙ waiting-three p es y (sees-mirror es y k) i h
 
-    busy-back : (i j : ℕ) → BothBelow g (waitingThree p es) (turnAt p es) i j → BothBelow g (waitsBefore (frame g out) y) (y .state .turn) i j
-    busy-back i j = subst (λ (w : Three). BothBelow g w (turnAt p es) i j → BothBelow g (waitsBefore (frame g out) y) (y .state .turn) i j) three-same
-        (subst (λ (t : ℕ). BothBelow g (waitsBefore (frame g out) y) t i j → BothBelow g (waitsBefore (frame g out) y) (y .state .turn) i j) (sym (sees-turn es y k)) (λ b. b))
+    both-same : (i j : ℕ) → BothBelow g (waitsBefore (frame g out) y) (y .state .turn) i j ≡ BothBelow g (waitingThree p es) (turnAt p es) i j
+    both-same i j = ap₂ (λ (w : Three) (t : ℕ). BothBelow g w t i j) three-same (sym (sees-turn es y k))
 
     below-back : (i : ℕ) → i < 3 → StillBelow p i g (answer (frame g out) y) es → Left i g out y
     below-back i h b = omega (arith, b, waits-same i h)
@@ -137,14 +151,17 @@ module _ (p : ℕ) (store : List ℕ) (hs : length store ≡ 12288) where
     close-same : (m n m′ n′ : ℕ) → m ≡ m′ → n ≡ n′ → Close m′ n′ → Close m n
     close-same m n m′ n′ e f c = (omega (arith, e, f, c .0), omega (arith, e, f, c .1))
 
-    busy-are : Throughout (λ g b ds. BothBelow g (waitingThree p ds) (turnAt p ds) i j) es (log acts y) → Busy i j acts y
-    busy-are t = frames-back _ _ (λ g out ds d s e. busy-back g out ds d s e i j) acts es y k st t
+    busy-are : BusyIn p i j es (log acts y) → Busy i j acts y
+    busy-are t = frames-back _ _ (λ g out ds d s e b. subst (λ (T : Type 0). T) (sym (both-same g out ds d s e i j)) b) acts es y k st t
 
-    still-are : Throughout (λ g b ds. StillBelow p i g b ds × StillBelow p j g b ds) es (log acts y) → Busy i j acts y
+    still-are : StillIn p i j es (log acts y) → BusyIn p i j es (log acts y)
     still-are t =
-        left-busy i j acts y (frames-back _ _ (λ g out ds d s e b. (below-back g out ds d s e i hi (b .0), below-back g out ds d s e j hj (b .1))) acts es y k st t)
+        throughout-so _ _
+        (λ g out ds d s e z b.
+        subst (λ (T : Type 0). T) (both-same g out ds d s e i j) (left-below i j g out d z (below-back g out ds d s e i hi (b .0), below-back g out ds d s e j hj (b .1))))
+        acts es y k st t
 
-    level-are : Throughout (λ g b ds. (at (g .share) i ≡ at (g .share) j) × ShareWaits p i g b ds × ShareWaits p j g b ds) es (log acts y) → Level i j acts y
+    level-are : LevelIn p i j es (log acts y) → Level i j acts y
     level-are t =
         frames-back _ _ (λ g out ds d s e b. (b .0, waits-back g out ds d s e i hi (b .1), waits-back g out ds d s e j hj (b .2))) acts es y k st t
 
@@ -152,8 +169,8 @@ module _ (p : ℕ) (store : List ℕ) (hs : length store ≡ 12288) where
     stretch-fair =
         record {
           spares = λ t. close-same _ _ _ _ (beyond-are i hi) (beyond-are j hj) (fair-spares i j hi hj acts y (busy-are t) .reported);
-          still = λ t. close-same _ _ _ _ (beyond-are i hi) (beyond-are j hj) (fair-spares i j hi hj acts y (still-are t) .reported);
-          packets = λ t l. close-same _ _ _ _ (got-are i) (got-are j) (fair-spares i j hi hj acts y (still-are t) .packets (level-are l));
+          packets = λ t l. close-same _ _ _ _ (got-are i) (got-are j) (fair-spares i j hi hj acts y (busy-are t) .packets (level-are l));
+          still = still-are;
         }
 
 -- ---- the statement

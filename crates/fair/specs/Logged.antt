@@ -38,27 +38,34 @@ reportedOf i g b before = at (b .packets) i
 abbrev pub beyondOf : ℕ → ℕ → Settings → Answer → List Event → ℕ
 beyondOf p i g b before = at (b .packets) i - min (at (g .share) i) (waitingAt p i before)
 
--- some of queue i still wait behind the frame, and it is below its ceiling in it
+-- ---- the premise of E11: in each frame of the stretch, each time a spare is handed out, i and j are both still below
+abbrev pub BusyIn : ℕ → ℕ → ℕ → List Event → List Event → Type 0
+BusyIn p i j = Throughout (λ g b before. BothBelow g (waitingThree p before) (turnAt p before) i j)
+
+-- what the numbers of a log show: behind each frame some of i still wait, and it is below its ceiling; and so of j
 abbrev pub StillBelow : ℕ → ℕ → Settings → Answer → List Event → Type 0
 StillBelow p i g b before = at (b .packets) i < min (waitingAt p i before) (at (g .ceiling) i)
 
--- its share waits
+abbrev pub StillIn : ℕ → ℕ → ℕ → List Event → List Event → Type 0
+StillIn p i j = Throughout (λ g b before. StillBelow p i g b before × StillBelow p j g b before)
+
+-- in each frame i and j have equal shares, and at least these waiting
 abbrev pub ShareWaits : ℕ → ℕ → Settings → Answer → List Event → Type 0
 ShareWaits p i g b before = at (g .share) i ≤ waitingAt p i before
 
--- of queues i and j, over a stretch of the log
-pub record FairIn (p i j : ℕ) (before stretch : List Event) : Type 0 where
-  -- the premise of E11
-  pub spares : Throughout (λ g b es. BothBelow g (waitingThree p es) (turnAt p es) i j) before stretch
-      → Close (allWritten (beyondOf p i) before stretch) (allWritten (beyondOf p j) before stretch)
-  -- one that the numbers of the log show
-  pub still : Throughout (λ g b es. StillBelow p i g b es × StillBelow p j g b es) before stretch
-      → Close (allWritten (beyondOf p i) before stretch) (allWritten (beyondOf p j) before stretch)
-  -- and then of all packets, where shares are equal and wait
-  pub packets : Throughout (λ g b es. StillBelow p i g b es × StillBelow p j g b es) before stretch
-      → Throughout (λ g b es. (at (g .share) i ≡ at (g .share) j) × ShareWaits p i g b es × ShareWaits p j g b es) before stretch
-      → Close (allWritten (reportedOf i) before stretch) (allWritten (reportedOf j) before stretch)
+abbrev pub LevelIn : ℕ → ℕ → ℕ → List Event → List Event → Type 0
+LevelIn p i j = Throughout (λ g b before. (at (g .share) i ≡ at (g .share) j) × ShareWaits p i g b before × ShareWaits p j g b before)
 
+-- ---- the statement
+pub record FairIn (p i j : ℕ) (before stretch : List Event) : Type 0 where
+  -- the spares, as reported
+  pub spares : BusyIn p i j before stretch → Close (allWritten (beyondOf p i) before stretch) (allWritten (beyondOf p j) before stretch)
+  -- all packets, where shares are equal and wait
+  pub packets : BusyIn p i j before stretch → LevelIn p i j before stretch → Close (allWritten (reportedOf i) before stretch) (allWritten (reportedOf j) before stretch)
+  -- the premise is met where the numbers of the log show it
+  pub still : StillIn p i j before stretch → BusyIn p i j before stretch
+
+-- of queues i and j, in any stretch of the log
 abbrev pub FairLog : ℕ → List Event → Type 0
 FairLog p es =
     (i j : ℕ) → i < 3 → j < 3 → (before stretch behind : List Event) → es ≡ before ++ (stretch ++ behind) → FairIn p i j before stretch
