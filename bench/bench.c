@@ -64,8 +64,10 @@ static void fill_stream(void) {
     for (int k = 0; k < 3; k++) { /* units of 500 bytes, as news pages are: 4,000 bytes and 32 packets a queue */
         busy.q[k].count = 8;
         for (int j = 0; j < 8; j++) busy.q[k].left[j] = 500;
+        busy.waiting[k] = 32;
         half.q[k].count = 4;
         for (int j = 0; j < 4; j++) half.q[k].left[j] = 500;
+        half.waiting[k] = 16;
     }
     for (int k = 0; k < 8; k++) { /* two units of four packets */
         units[k][0] = (uint8_t)((k % 4 == 0) << 7 | (k % 4 == 3) << 6 | 1 << 4 | k);
@@ -170,7 +172,7 @@ static void fill_mdi(void) {
         else TIMES(before, *still) \
     }
 
-/* All that a call may have written. The places of `left` behind `count` say nothing and are left out. */
+/* All that a call may have written. The places of `left` behind `count` and the padding say nothing and are left out. */
 static unsigned long long sum_of(const void *at, size_t n, unsigned long long sum) {
     for (size_t i = 0; i < n; i++) sum = sum * 31 + ((const uint8_t *)at)[i];
     return sum;
@@ -188,6 +190,7 @@ static unsigned long long sum_all(unsigned long long sum) {
     for (int k = 0; k < 3; k++)
         sum = sum_of(state.q[k].left, 2 * state.q[k].count, sum) * 31 + state.q[k].sent;
     sum = sum_of(state.index, 4, sum) * 31 + state.turn;
+    for (int k = 0; k < 3; k++) sum = sum * 31 + state.waiting[k];
     for (int k = 0; k < 4; k++)
         sum = (((sum * 31 + link.link[k].heard) * 31 + link.link[k].index) * 31 + link.link[k].begun) * 31 + link.link[k].len;
     for (int k = 0; k < 3; k++) sum = sum * 31 + framed.packets[k];

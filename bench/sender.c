@@ -18,24 +18,25 @@ static size_t unsent(const struct keshgurvat_queue *q) {
     return bytes;
 }
 
-static size_t waiting(const struct keshgurvat_queue *q, size_t p) {
-    size_t packets = 0;
-    for (size_t i = 0; i < q->count; i++) packets += (q->left[i] + p - 1) / p;
-    return packets;
-}
+static size_t packets_of(size_t bytes, size_t p) { return (bytes + p - 1) / p; }
 
-static int broken_queue(const struct keshgurvat_queue *q, size_t p) {
+/* One pass over the units finds their faults, their bytes, and the packets that wait, which the stored count has to be. */
+static int broken_queue(const struct keshgurvat_queue *q, size_t waiting, size_t p) {
+    size_t bytes = 0, packets = 0;
     if (q->count > 8) return 1;
-    for (size_t i = 0; i < q->count; i++)
+    for (size_t i = 0; i < q->count; i++) {
         if (q->left[i] == 0) return 1;
-    if (unsent(q) > 4096 || q->sent % p != 0) return 1;
+        bytes += q->left[i];
+        packets += packets_of(q->left[i], p);
+    }
+    if (bytes > 4096 || packets != waiting || q->sent % p != 0) return 1;
     if (q->count == 0) return q->sent > 0;
     return q->sent > 4096 || q->left[0] + q->sent > 4096;
 }
 
 static int broken(const struct keshgurvat_sender *s, size_t p) {
     for (int i = 0; i < 3; i++)
-        if (broken_queue(&s->q[i], p)) return 1;
+        if (broken_queue(&s->q[i], s->waiting[i], p)) return 1;
     if (s->turn > 2) return 1;
     for (int i = 0; i < 4; i++)
         if (s->index[i] > 7) return 1;
@@ -53,14 +54,15 @@ uint32_t plain_load(struct keshgurvat_sender *state, const struct keshgurvat_set
     if (q->count >= 8 || unit_len + bytes > 4096) return 15;
     memcpy(store + id * 4096 + bytes, unit, unit_len);
     q->left[q->count++] = (uint16_t)unit_len;
+    state->waiting[id] += (uint16_t)packets_of(unit_len, settings->p);
     return 0;
 }
 
-/* How many packets each queue gets: its share first, then spares one at a time from the turn on. */
+/* How many packets each queue gets, by what is stored as waiting: its share first, then spares one at a time from the turn on. */
 static void hand_out(struct keshgurvat_sender *state, const struct keshgurvat_settings *s, struct plain_framed *f) {
     size_t share[3] = {s->share.a, s->share.b, s->share.c}, ceiling[3] = {s->ceiling.a, s->ceiling.b, s->ceiling.c}, cap[3], sum = 0;
     for (int i = 0; i < 3; i++) {
-        size_t w = waiting(&state->q[i], s->p);
+        size_t w = state->waiting[i];
         f->packets[i] = share[i] < w ? share[i] : w;
         cap[i] = w < ceiling[i] ? w : ceiling[i];
         sum += f->packets[i];
@@ -96,7 +98,7 @@ static void put_packet(size_t p, uint8_t head, const uint8_t *useful, size_t n, 
     out[p + 2] = (uint8_t)word;
 }
 
-/* The next n packets of a queue; its unsent bytes then move to the front of its part of the store. */
+/* The next n packets of a queue, which wait no longer; its unsent bytes then move to the front of its part of the store. */
 static uint8_t *put_row(struct keshgurvat_sender *state, size_t p, size_t id, size_t n, uint8_t *part, uint8_t *out) {
     struct keshgurvat_queue *q = &state->q[id];
     const uint8_t *from = part;
@@ -117,6 +119,7 @@ static uint8_t *put_row(struct keshgurvat_sender *state, size_t p, size_t id, si
             q->sent += p;
         }
     }
+    state->waiting[id] -= (uint16_t)n;
     memmove(part, from, unsent(q));
     return out;
 }

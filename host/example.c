@@ -32,7 +32,7 @@ static struct ear {
 
 /* and its own books: of each queue the units loaded and delivered, and of each unfinished unit when it came and its promise */
 static struct book {
-    size_t loaded, no_room, delivered, packets, longest, promise;
+    size_t loaded, no_room, delivered, packets, most, longest, promise; /* most: packets that waited at once */
     size_t since[16], bound[16], length[16]; /* by the unit's number modulo 16; at most eight are unfinished */
 } book[QUEUES];
 static size_t filler, faults; /* filler in packets */
@@ -44,13 +44,8 @@ static void fault(const char *what, size_t number) {
 /* the bytes of a unit, so that the far end can tell them */
 static uint8_t content(size_t id, size_t unit, size_t i) { return (uint8_t)(37 * id + 101 * unit + i + i / 256); }
 
-static size_t waiting(const struct keshgurvat_queue *q) { /* packets */
-    size_t n = 0;
-    for (size_t i = 0; i < q->count; i++) n += (q->left[i] + settings.p - 1) / settings.p;
-    return n;
-}
-
-/* A unit for a queue. With k packets waiting behind it and a share of s it is wholly sent within k/s frames, rounded up. */
+/* A unit for a queue. With k packets waiting then, its own among them, and a share of s it is wholly sent within k/s frames, rounded up.
+   The sender keeps k: no host adds up units. */
 static bool offer(size_t id, size_t length, size_t now) {
     const size_t share[QUEUES] = {settings.share.a, settings.share.b, settings.share.c};
     static uint8_t unit[KESHGURVAT_QUEUE];
@@ -68,7 +63,8 @@ static bool offer(size_t id, size_t length, size_t now) {
     sender = l.next;
     size_t at = b->loaded++ % 16;
     b->since[at] = now, b->length[at] = length;
-    b->bound[at] = (waiting(&sender.q[id]) + share[id] - 1) / share[id];
+    b->bound[at] = (sender.waiting[id] + share[id] - 1) / share[id];
+    if (sender.waiting[id] > b->most) b->most = sender.waiting[id];
     return true;
 }
 
@@ -177,10 +173,11 @@ int main(int argc, char **argv) {
                book[NEWS].packets - news, book[MAPS].packets - maps, book[TIMETABLE].packets - table, filler - none,
                all_ids(&ear[HALL], DROPPED) - hall, all_ids(&ear[VALLEY], DROPPED) - valley, maps_left);
     }
-    printf("\n%-10s %8s %10s %8s %13s %8s\n", "queue", "loaded", "delivered", "no room", "longest wait", "promise");
+    printf("\nqueue        loaded  delivered  no room   packets wait  at most  longest wait  promise\n");
     for (size_t id = 0; id < QUEUES; id++) {
         const struct book *b = &book[id];
-        printf("%-10s %8zu %10zu %8zu %6zu frames %8zu\n", name[id], b->loaded, b->delivered, b->no_room, b->longest, b->promise);
+        printf("%-10s %8zu %10zu %8zu %14u %8zu %6zu frames %8zu\n", name[id], b->loaded, b->delivered, b->no_room,
+               sender.waiting[id], b->most, b->longest, b->promise);
         if (b->delivered + sender.q[id].count != b->loaded) fault("units are missing in queue", id);
     }
     printf("\nbytes          useful  delivered    dropped       open    skipped  packets lost\n");

@@ -62,23 +62,33 @@ KESHGURVAT_FIELD(keshgurvat_queue, left, 0);
 KESHGURVAT_FIELD(keshgurvat_queue, count, 16);
 KESHGURVAT_FIELD(keshgurvat_queue, sent, 24);
 
-/* The sender: three queues, whose turn it is to get a spare, and the next continuity index of each id, filler (id 3) last. */
+/* The sender: three queues, whose turn it is to get a spare, the next continuity index of each id, filler (id 3) last, and the packets that
+   wait in queues 0, 1, 2. padding says nothing: no call looks at it, and it need not come back as it was.
+   waiting (E1 of 02) is, of each queue, the packets of p data bytes that its units still take: the bytes left of each unit over p, rounded
+   up, and these added up. load and frame keep it; a caller reads it, as the desk display does, and adds up nothing. A state in which one of
+   the three differs from that sum, for the p of the call's settings, is 17 in load and in frame, whichever queue it is; so the way to another
+   p is to let all three queues run empty. After an accepted load next.waiting[id] is the k of the promise: with a share of s the unit is
+   wholly sent within k/s frames, rounded up. */
 struct keshgurvat_sender {
     struct keshgurvat_queue q[3];
     size_t turn;
     uint8_t index[4];
+    uint8_t padding[4];
+    uint16_t waiting[3];
 };
-KESHGURVAT_LAYOUT(sizeof(struct keshgurvat_sender) == 112);
+KESHGURVAT_LAYOUT(sizeof(struct keshgurvat_sender) == 120);
 KESHGURVAT_FIELD(keshgurvat_sender, q, 0);
 KESHGURVAT_FIELD(keshgurvat_sender, turn, 96);
 KESHGURVAT_FIELD(keshgurvat_sender, index, 104);
+KESHGURVAT_FIELD(keshgurvat_sender, padding, 108);
+KESHGURVAT_FIELD(keshgurvat_sender, waiting, 112);
 
 /* The answer to a load: the number, and the sender after it. */
 struct keshgurvat_loaded {
     uint32_t number;
     struct keshgurvat_sender next;
 };
-KESHGURVAT_LAYOUT(sizeof(struct keshgurvat_loaded) == 120);
+KESHGURVAT_LAYOUT(sizeof(struct keshgurvat_loaded) == 128);
 KESHGURVAT_FIELD(keshgurvat_loaded, number, 0);
 KESHGURVAT_FIELD(keshgurvat_loaded, next, 8);
 
@@ -90,12 +100,12 @@ struct keshgurvat_framed {
     struct keshgurvat_three packets;
     size_t spares, filler;
 };
-KESHGURVAT_LAYOUT(sizeof(struct keshgurvat_framed) == 160);
+KESHGURVAT_LAYOUT(sizeof(struct keshgurvat_framed) == 168);
 KESHGURVAT_FIELD(keshgurvat_framed, number, 0);
 KESHGURVAT_FIELD(keshgurvat_framed, next, 8);
-KESHGURVAT_FIELD(keshgurvat_framed, packets, 120);
-KESHGURVAT_FIELD(keshgurvat_framed, spares, 144);
-KESHGURVAT_FIELD(keshgurvat_framed, filler, 152);
+KESHGURVAT_FIELD(keshgurvat_framed, packets, 128);
+KESHGURVAT_FIELD(keshgurvat_framed, spares, 152);
+KESHGURVAT_FIELD(keshgurvat_framed, filler, 160);
 
 /* What the receiver knows of one id: whether a packet of it has come, the index that the next one should have, whether a unit is open, and
    its bytes so far (0 where none is open). */
@@ -152,16 +162,17 @@ uint32_t keshgurvat_packet_check(size_t p, const uint8_t *packet, size_t packet_
    13: p outside 1 to 255; n 0; n (p + 3) over 8,190; a share over its ceiling; a ceiling 0 or over n; shares over n together. */
 uint32_t keshgurvat_settings_check(struct keshgurvat_settings settings);
 
-/* A sender with no unit, turn 0, indexes 0. No refusals. */
+/* A sender with no unit, turn 0, indexes 0, none waiting. No refusals. */
 struct keshgurvat_sender keshgurvat_sender_fresh(void);
 
-/* A unit for queue id; its bytes go to the store.
-   13: the settings. 17: the state, as 01 lists it; never in a run from a fresh sender with p unchanged. 1: a store other than 12,288 bytes; a
-   unit over 65,528. 14: a unit empty or over 4,096 bytes; id over 2. 15: eight units unfinished, or too few bytes free in the queue. */
+/* A unit for queue id; its bytes go to the store, and waiting[id] rises by the packets that it takes.
+   13: the settings. 17: the state, as 01 lists it, or where one of the three in waiting is not the sum for this p; never in a run from a fresh
+   sender with p unchanged. 1: a store other than 12,288 bytes; a unit over 65,528. 14: a unit empty or over 4,096 bytes; id over 2. 15: eight
+   units unfinished, or too few bytes free in the queue. */
 struct keshgurvat_loaded keshgurvat_load(struct keshgurvat_sender state, struct keshgurvat_settings settings,
                                          uint8_t *store, size_t store_length, size_t id, const uint8_t *unit, size_t unit_length);
 
-/* The next frame, n (p + 3) bytes, to the front of the output.
+/* The next frame, n (p + 3) bytes, to the front of the output; waiting falls by the packets of each queue in it.
    13: the settings. 17: the state, as above. 1: a store other than 12,288 bytes. 1, last: an output under n (p + 3) bytes. */
 struct keshgurvat_framed keshgurvat_frame(struct keshgurvat_sender state, struct keshgurvat_settings settings,
                                           uint8_t *store, size_t store_length, uint8_t *output, size_t output_length);

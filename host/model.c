@@ -73,6 +73,12 @@ static size_t unsent(const struct keshgurvat_queue *q) {
 
 static size_t packets_of(size_t bytes, size_t p) { return bytes / p + (bytes % p != 0); }
 
+size_t model_waiting(const struct keshgurvat_queue *q, size_t p) {
+    size_t n = 0;
+    for (size_t i = 0; i < q->count && i < 8; i++) n += packets_of(q->left[i], p);
+    return n;
+}
+
 static bool is_17(const struct keshgurvat_sender *state, size_t p) {
     for (int id = 0; id < 3; id++) {
         const struct keshgurvat_queue *q = &state->q[id];
@@ -82,6 +88,7 @@ static bool is_17(const struct keshgurvat_sender *state, size_t p) {
             if (q->left[i] == 0 || sent > 4096 || q->left[i] + sent > 4096) return true;
         }
         if (unsent(q) > 4096 || q->sent % p != 0 || (q->count == 0 && q->sent != 0)) return true;
+        if (state->waiting[id] != model_waiting(q, p)) return true; /* E1 of 02: the stored count differs from the sum */
     }
     for (int id = 0; id < 4; id++)
         if (state->index[id] > 7) return true;
@@ -98,16 +105,17 @@ uint32_t model_load(struct keshgurvat_sender *state, const struct keshgurvat_set
     if (n + unsent(q) > 4096 || q->count >= 8) return 15;
     memcpy(store + 4096 * id + unsent(q), unit, n);
     q->left[q->count++] = (uint16_t)n;
+    state->waiting[id] = (uint16_t)(state->waiting[id] + packets_of(n, s->p));
     return 0;
 }
 
-/* each queue first gets the smaller of share and waiting; then spares go one at a time, in cyclic order from the turn */
+/* each queue first gets the smaller of share and waiting, as stored; then spares go one at a time, in cyclic order from the turn */
 static void hand_out(struct keshgurvat_sender *state, const struct keshgurvat_settings *s, struct model_counts *c) {
-    size_t share[3], ceiling[3], waiting[3] = {0, 0, 0}, total = 0;
+    size_t share[3], ceiling[3], total = 0;
+    const uint16_t *waiting = state->waiting;
     three(&s->share, share), three(&s->ceiling, ceiling);
     memset(c, 0, sizeof *c);
     for (int id = 0; id < 3; id++) {
-        for (size_t i = 0; i < state->q[id].count; i++) waiting[id] += packets_of(state->q[id].left[i], s->p);
         c->packets[id] = share[id] < waiting[id] ? share[id] : waiting[id];
         total += c->packets[id];
     }
@@ -150,7 +158,9 @@ uint32_t model_frame(struct keshgurvat_sender *state, const struct keshgurvat_se
             state->index[id] = (state->index[id] + 1) % 8;
             out += s->p + 3;
         }
-        if (id < 3) memmove(part, part + sent, unsent(&state->q[id]));
+        if (id == 3) break;
+        memmove(part, part + sent, unsent(&state->q[id]));
+        state->waiting[id] = (uint16_t)(state->waiting[id] - counts->packets[id]);
     }
     return 0;
 }

@@ -1,5 +1,6 @@
-/* A second account of document 01 and of E5 of 02, for the comparison in test.c: from their sentences, on plain lists, one bit or one packet
-   at a time, with none of the library's code. Each call acts on its arguments in place and gives the number; a refusal changes nothing. */
+/* A second account of document 01 and of E1 and E5 of 02, for the comparison in test.c: from their sentences, on plain lists, one bit or one
+   packet at a time, with none of the library's code. Each call acts on its arguments in place and gives the number; a refusal changes
+   nothing. */
 #ifndef MODEL_H
 #define MODEL_H
 #include "keshgurvat.h"
@@ -21,6 +22,7 @@ void model_seal(uint8_t *packet, size_t p);
 uint32_t model_check(size_t p, const uint8_t *packet, size_t n);
 
 uint32_t model_settings(const struct keshgurvat_settings *s);
+size_t model_waiting(const struct keshgurvat_queue *q, size_t p); /* packets, added up from the units, of which a queue has eight places */
 uint32_t model_load(struct keshgurvat_sender *state, const struct keshgurvat_settings *s, uint8_t *store, size_t room, size_t id,
                     const uint8_t *unit, size_t n);
 uint32_t model_frame(struct keshgurvat_sender *state, const struct keshgurvat_settings *s, uint8_t *store, size_t room, uint8_t *out,

@@ -41,14 +41,30 @@ static void saw_dropped(const struct keshgurvat_link link[4], const uint8_t *pac
     if (l->heard && l->index != (packet[0] & 7)) causes[null ? BREAK_NULL : packet[0] & 128 ? BREAK_FIRST : BREAK]++;
     else causes[packet[0] & 128 ? FIRST : OVERLENGTH]++;
 }
-static void test_causes(void) {
-    static const char *const name[CAUSES] = {"break", "break and first", "break and null", "first", "overlength"};
-    printf("%-14s", "bytes dropped");
-    for (int c = 0; c < CAUSES; c++) {
-        printf("  %s: %lu", name[c], causes[c]);
-        check(causes[c] >= 100, "bytes dropped, cause", (unsigned long)c); /* test_dropped alone is a few of each */
+
+/* ---- stored counts (E1 of 02): how often one that is not the sum came to a load [0] or a frame [1], by what stood there instead, and by
+   what was wrong beside it; and how often a call had another p than the last */
+enum kind { ONE_MORE, ONE_LESS, CEILING, UNITS, BYTES, OTHER_P, EXCHANGED, LARGEST, ANY, KINDS };
+enum beside { NOTHING, NOT_LOADED, BAD_SETTINGS, SHORT_STORE, NINE_UNITS, BESIDES };
+enum change { EMPTY, EQUAL, EQUAL_SENT, UNEQUAL, CHANGES };
+static unsigned long kinds[2][KINDS], besides[BESIDES], changes[CHANGES];
+
+static void often(const char *title, const char *const name[], const unsigned long met[], int n) {
+    printf("%-14s", title);
+    for (int i = 0; i < n; i++) {
+        printf("  %s: %lu", name[i], met[i]);
+        check(met[i] >= 100, title, (unsigned long)i); /* the cases worked out by hand are a few of each */
     }
     printf("\n");
+}
+static void test_often(void) {
+    static const char *const cause[CAUSES] = {"break", "break and first", "break and null", "first", "overlength"};
+    static const char *const kind[KINDS] = {"one more", "one less", "ceiling", "units", "bytes", "other p", "exchanged", "65535", "any"};
+    static const char *const beside[BESIDES] = {"nothing", "not loaded", "settings", "store", "nine units"};
+    static const char *const change[CHANGES] = {"empty", "equal", "equal, sent otherwise", "unequal"};
+    often("bytes dropped", cause, causes, CAUSES);
+    often("counts, load", kind, kinds[0], KINDS), often("counts, frame", kind, kinds[1], KINDS);
+    often("and wrong", beside, besides, BESIDES), often("another p", change, changes, CHANGES);
 }
 
 /* ---- chance */
@@ -93,11 +109,11 @@ static bool settled(const struct lent *b) { /* as the model left it, and nothing
 static bool same_queue(const struct keshgurvat_queue *a, const struct keshgurvat_queue *b, size_t places) {
     return a->count == b->count && a->sent == b->sent && memcmp(a->left, b->left, places * sizeof a->left[0]) == 0;
 }
-/* all of it where nothing may change; else the places that say something */
+/* all of it where nothing may change, but the padding; else the places that say something */
 static bool same_sender(const struct keshgurvat_sender *a, const struct keshgurvat_sender *b, bool all) {
     for (int i = 0; i < 3; i++)
         if (!same_queue(&a->q[i], &b->q[i], all || a->q[i].count > 8 ? 8 : a->q[i].count)) return false;
-    return a->turn == b->turn && memcmp(a->index, b->index, sizeof a->index) == 0;
+    return a->turn == b->turn && memcmp(a->index, b->index, sizeof a->index) == 0 && memcmp(a->waiting, b->waiting, sizeof a->waiting) == 0;
 }
 static bool same_receiver(const struct keshgurvat_receiver *a, const struct keshgurvat_receiver *b) {
     for (int i = 0; i < 4; i++) {
@@ -202,6 +218,14 @@ static void spoil_settings(struct keshgurvat_settings *s) {
     else *field[i] += one_in(2) ? 1 : SIZE_MAX; /* one more, or one less */
 }
 
+static void count_up(struct keshgurvat_sender *t, size_t p) { /* the right counts */
+    for (int i = 0; i < 3; i++) t->waiting[i] = (uint16_t)model_waiting(&t->q[i], p);
+}
+static bool counts_right(const struct keshgurvat_sender *t, size_t p) {
+    for (int i = 0; i < 3; i++)
+        if (t->waiting[i] != model_waiting(&t->q[i], p)) return false;
+    return true;
+}
 static struct keshgurvat_sender some_sender(size_t p) { /* any that is not 17, with rubbish in the places that say nothing */
     struct keshgurvat_sender t;
     for (int i = 0; i < 3; i++) {
@@ -217,10 +241,11 @@ static struct keshgurvat_sender some_sender(size_t p) { /* any that is not 17, w
         if (q->count && one_in(2)) q->sent = p * below((4096u - q->left[0]) / p + 1);
     }
     t.turn = below(3);
-    for (int i = 0; i < 4; i++) t.index[i] = (uint8_t)below(8);
+    for (int i = 0; i < 4; i++) t.index[i] = (uint8_t)below(8), t.padding[i] = (uint8_t)draw();
+    count_up(&t, p);
     return t;
 }
-static void spoil_sender(struct keshgurvat_sender *t, size_t p) {
+static void spoil_sender(struct keshgurvat_sender *t, size_t p) { /* with right counts, so that they are not why it is refused */
     struct keshgurvat_queue *q = &t->q[below(3)];
     size_t at = q->count ? below(q->count) : 0;
     switch (below(10)) {
@@ -234,6 +259,24 @@ static void spoil_sender(struct keshgurvat_sender *t, size_t p) {
     case 7: t->turn = one_in(2) ? 3 : SIZE_MAX; break;
     case 8: t->index[below(4)] = one_in(2) ? 8 : 255; break;
     default: q->count = 0, q->sent = p;
+    }
+    count_up(t, p);
+}
+static void spoil_counts(struct keshgurvat_sender *t, size_t p, size_t id, enum kind kind) { /* some of these are right by chance */
+    const struct keshgurvat_queue *q = &t->q[id];
+    uint16_t *count = &t->waiting[id], *other = &t->waiting[(id + 1 + below(2)) % 3], kept = *count;
+    size_t bytes = 0;
+    for (size_t i = 0; i < q->count; i++) bytes += q->left[i];
+    switch (kind) {
+    case ONE_MORE: *count = (uint16_t)(kept + 1); break;
+    case ONE_LESS: *count = (uint16_t)(kept - 1); break;
+    case CEILING: *count = (uint16_t)((bytes + p - 1) / p); break;
+    case UNITS: *count = (uint16_t)q->count; break;
+    case BYTES: *count = (uint16_t)bytes; break;
+    case OTHER_P: *count = (uint16_t)model_waiting(q, some_p()); break;
+    case EXCHANGED: *count = *other, *other = kept; break;
+    case LARGEST: *count = 65535; break;
+    default: *count = (uint16_t)draw();
     }
 }
 
@@ -290,8 +333,15 @@ static void test_settings(void) {
     }
 }
 
-static void test_sender_calls(void) { /* any state, one call */
-    static const size_t units[] = {0, 1, 4095, 4096, 4097, 65528, 65529}, rooms[] = {0, 12287, 12289, 16384};
+static size_t some_unit(void) {
+    static const size_t edge[] = {0, 1, 4095, 4096, 4097, 65528, 65529};
+    return one_in(6) ? ONE_OF(edge) : 1 + below(700);
+}
+static size_t some_size(const struct keshgurvat_settings *s) { /* of a frame's output: enough, or one byte less */
+    return model_settings(s) ? below(9000) : s->n * (s->p + 3) + below(3) - one_in(8);
+}
+static void test_sender_calls(void) { /* any state with right counts, one call */
+    static const size_t rooms[] = {0, 12287, 12289, 16384};
     for (unsigned long t = 0; t < 3000; t++) {
         size_t p = some_p(), room = one_in(20) ? ONE_OF(rooms) : 12288;
         struct keshgurvat_settings s = some_settings(p);
@@ -299,8 +349,86 @@ static void test_sender_calls(void) { /* any state, one call */
         if (one_in(12)) spoil_settings(&s);
         if (one_in(4)) spoil_sender(&state, p);
         lend(&store, NULL, room);
-        if (t % 2) load(&state, s, room, one_in(12) ? 3 + below(9) : below(3), one_in(6) ? ONE_OF(units) : 1 + below(700), t);
-        else frame(&state, s, room, model_settings(&s) ? below(9000) : s.n * (p + 3) + below(3) - one_in(8), t);
+        if (t % 2) load(&state, s, room, one_in(12) ? 3 + below(9) : below(3), some_unit(), t);
+        else frame(&state, s, room, some_size(&s), t);
+    }
+}
+
+/* Any state but for its counts, one call. Where one of them is not the sum: 13 if the settings are refused, else 17, whatever else is wrong;
+   and the wrong counts come back as they came (load and frame look). */
+static void test_counts(void) {
+    for (unsigned long t = 0; t < 6000; t++) {
+        size_t p = some_p(), id = below(3), to = one_in(12) ? 3 + below(9) : below(3);
+        enum kind kind = (enum kind)(t / 2 % KINDS);
+        enum beside beside = one_in(3) ? (enum beside)(BAD_SETTINGS + below(3)) : NOTHING;
+        struct keshgurvat_settings s = some_settings(p);
+        struct keshgurvat_sender state = some_sender(p);
+        spoil_counts(&state, p, id, kind);
+        bool right = counts_right(&state, p);
+        if (beside == NOTHING && t % 2 && to < 3 && state.waiting[to] == model_waiting(&state.q[to], p)) beside = NOT_LOADED;
+        if (beside == BAD_SETTINGS) spoil_settings(&s);
+        if (beside == NINE_UNITS) state.q[below(3)].count = 9;
+        size_t room = beside == SHORT_STORE ? 12287 : 12288;
+        uint32_t refused = model_settings(&s) ? 13 : 17;
+        lend(&store, NULL, room);
+        uint32_t number = t % 2 ? load(&state, s, room, to, some_unit(), t) : frame(&state, s, room, some_size(&s), t).number;
+        if (right) continue;
+        check(number == refused, "a count that is not the sum", t);
+        kinds[t % 2 == 0][kind] += refused == 17;
+        besides[beside] += refused == (beside == BAD_SETTINGS ? 13 : 17);
+    }
+}
+
+/* E1 of 02: counts worked out by hand. */
+static void test_waiting(void) {
+    const struct keshgurvat_settings s = {10, 2, {1, 0, 0}, {1, 2, 2}};
+    for (size_t i = 0; i < 3 * 4 * 8; i++) { /* units of 25 bytes (10 sent), 10 and 1: 2 + 1 + 1 packets wait; 26 bytes would be 3 */
+        size_t id = i % 3, to = i / 3 % 4, stored = i / 12;
+        struct keshgurvat_sender state = keshgurvat_sender_fresh();
+        lend(&store, NULL, 12288);
+        state.q[id] = (struct keshgurvat_queue){{15, 10, 1}, 3, 10}, state.waiting[id] = (uint16_t)stored;
+        uint32_t number = to < 3 ? load(&state, s, 12288, to, 1, i) : frame(&state, s, 12288, 26, i).number;
+        check(number == (stored == 4 ? 0 : 17), "25 with 10 sent, 10 and 1", i);
+    }
+    for (size_t i = 0; i < 12; i++) { /* one unit of 25 bytes, none sent, 3 packets at p 10, 9 and 12, not at p 5, 8 and 13 */
+        static const size_t another[] = {10, 9, 12, 5, 8, 13};
+        struct keshgurvat_settings to = {another[i / 2], 2, {1, 0, 0}, {1, 2, 2}};
+        struct keshgurvat_sender state = keshgurvat_sender_fresh();
+        lend(&store, NULL, 12288);
+        load(&state, s, 12288, 0, 25, i);
+        check(state.waiting[0] == 3, "25 at p 10", i);
+        uint32_t number = i % 2 ? load(&state, to, 12288, 1, 1, i) : frame(&state, to, 12288, 2 * (to.p + 3), i).number;
+        check(number == (i < 6 ? 0 : 17), "25 at another p", i);
+    }
+    static const struct { size_t id, length; uint16_t waiting[3]; } run[] = { /* a length of 0: a frame */
+        {0, 25, {3, 0, 0}}, {0, 10, {4, 0, 0}}, {0, 1, {5, 0, 0}}, {2, 11, {5, 0, 2}},
+        {0, 0, {4, 0, 1}}, {0, 0, {3, 0, 0}}, {0, 0, {2, 0, 0}}, {0, 0, {1, 0, 0}}, {0, 0, {0, 0, 0}}, {0, 0, {0, 0, 0}}};
+    struct keshgurvat_sender state = keshgurvat_sender_fresh();
+    lend(&store, NULL, 12288);
+    for (size_t i = 0; i < sizeof run / sizeof run[0]; i++) {
+        uint32_t number = run[i].length ? load(&state, s, 12288, run[i].id, run[i].length, i) : frame(&state, s, 12288, 26, i).number;
+        check(number == 0 && memcmp(state.waiting, run[i].waiting, sizeof state.waiting) == 0, "the counts of a run", i);
+    }
+}
+
+/* A run from a fresh sender in which now and then a call comes with another p. It is refused where a count is not the sum for that p, or 01
+   refuses the bytes sent; then the run goes on with the p before. With three empty queues any p is taken. */
+static void test_changes(unsigned long t) {
+    size_t p = some_p();
+    struct keshgurvat_sender state = keshgurvat_sender_fresh();
+    lend(&store, NULL, 12288);
+    for (int step = 0; step < 60; step++) {
+        size_t to = one_in(2) ? p : one_in(2) ? some_p() : p > 1 && one_in(2) ? p - 1 : p < 255 ? p + 1 : p;
+        struct keshgurvat_settings s = some_settings(to);
+        while (s.n > 12) s = some_settings(to); /* few packets a frame, so that units stay begun */
+        bool empty = true, sent = true, right = counts_right(&state, to);
+        for (int i = 0; i < 3; i++) empty &= state.q[i].count == 0, sent &= state.q[i].sent % to == 0;
+        uint32_t number = one_in(2) ? load(&state, s, 12288, below(3), 1 + below(4 * p), t)
+                                    : frame(&state, s, 12288, s.n * (to + 3), t).number;
+        check((number == 17) == !(right && sent), "a call with another p", t);
+        check(counts_right(&state, number == 17 ? p : to), "the counts after it", t);
+        if (to != p) changes[empty ? EMPTY : !right ? UNEQUAL : sent ? EQUAL : EQUAL_SENT]++;
+        if (number != 17) p = to;
     }
 }
 
@@ -406,20 +534,20 @@ static void test_run(unsigned long t, bool lossy, bool large) {
     struct keshgurvat_sender state = keshgurvat_sender_fresh();
     struct keshgurvat_receiver r = keshgurvat_receiver_fresh();
     struct keshgurvat_settings s = run_settings(p, large);
-    bool right = true, no_17 = true, whole = true;
+    bool right = true, no_17 = true, whole = true, kept = true;
     lend(&store, NULL, 12288), lend(&buffer, NULL, 16384);
     for (int step = 0; step < 50; step++) {
         for (size_t k = below(4); k; k--) {
             size_t id = one_in(20) ? 3 : below(3), n = one_in(5) ? below(4098) : 1 + below(4 * p);
             uint32_t number = load(&state, s, 12288, id, n, t);
-            no_17 &= number != 17;
+            no_17 &= number != 17, kept &= counts_right(&state, p);
             if (number) continue;
             memcpy(sent_units[id][given[id] % 16].bytes, input.model, n);
             sent_units[id][given[id]++ % 16].length = n;
         }
         if (one_in(10)) s = run_settings(p, large);
         struct keshgurvat_framed f = frame(&state, s, 12288, s.n * (p + 3) + below(2), t);
-        no_17 &= f.number == 0;
+        no_17 &= f.number == 0, kept &= counts_right(&state, p);
         for (size_t at = 0; at < s.n * (p + 3); at += p + 3) {
             if (lossy && one_in(6)) continue;
             struct keshgurvat_received d = receive(&r, p, 16384, output.model + at, p + 3, t);
@@ -432,6 +560,7 @@ static void test_run(unsigned long t, bool lossy, bool large) {
     }
     for (int id = 0; id < 3 && !lossy; id++) right &= back[id] + state.q[id].count == given[id];
     check(right, "units come back", t), check(no_17, "a run meets no 17", t), check(whole, "a run in order drops nothing", t);
+    check(kept, "a run keeps the counts", t);
 }
 
 static void test_fresh(void) {
@@ -467,12 +596,15 @@ int main(int argc, char **argv) {
     test_packet_check();
     test_settings();
     test_sender_calls();
+    test_counts();
+    test_waiting();
     test_receiver_calls();
     test_dropped();
     for (unsigned long t = 0; t < 40; t++) test_receiver_run(t);
     for (unsigned long t = 0; t < 24; t++) test_run(t, t % 4 == 3, t < 2);
+    for (unsigned long t = 0; t < 80; t++) test_changes(t);
     test_seen();
-    test_causes();
+    test_often();
     printf("%lu passed, %lu failed\n", passed, failed);
     return failed != 0 || passed == 0;
 }

@@ -1,5 +1,5 @@
 //! Compares the answers of another program with those of this one (docs/CASES.md), byte for byte. A case whose
-//! run does not add up (document 02, E11) fails as well, also where both answers are the same.
+//! run does not add up (document 02, E1 and E11) fails as well, also where both answers are the same.
 
 use crate::answer::{self, Answer, Given};
 use crate::calls;
@@ -110,18 +110,20 @@ impl Counts {
         line
     }
 
-    /// What E11 was held against; none where there was no run.
+    /// What E1 and E11 were held against; none where there was no run.
     fn added_line(&self) -> Option<String> {
         let Added {
             packets,
+            counts,
             frames,
             stretches,
             ..
         } = self.added;
-        (packets + frames > 0).then(|| {
+        (packets + counts + frames > 0).then(|| {
             format!(
-                "added up: the bytes of {packets} packets; for each two queues that could both take every \
-                 spare, {frames} frames, {stretches} times two or more in a row"
+                "added up: the bytes of {packets} packets; the packets waiting after {counts} calls at a sender; \
+                 for each two queues that could both take every spare, {frames} frames, {stretches} times two or \
+                 more in a row"
             )
         })
     }

@@ -67,6 +67,7 @@ pub trait Fields {
         for queue in &mut field.queues {
             self.number("units", &mut queue.units)?;
             self.number("sent", &mut queue.sent)?;
+            self.short("waiting", &mut queue.waiting)?;
             for left in &mut queue.left {
                 self.short("left", left)?;
             }
@@ -249,9 +250,9 @@ impl Fields for Vec<String> {
 
     fn sender(&mut self, field: &mut Sender) -> Option<()> {
         for (id, queue) in field.queues.iter().enumerate() {
-            let (units, sent, left) = (queue.units, queue.sent, queue.left);
+            let (units, sent, waiting, left) = (queue.units, queue.sent, queue.waiting, queue.left);
             self.push(format!(
-                "queue {id}: units {units}, sent {sent}, left {left:?}"
+                "queue {id}: units {units}, sent {sent}, waiting {waiting}, left {left:?}"
             ));
         }
         let (turn, indexes) = (field.turn, field.indexes);

@@ -1,8 +1,8 @@
 //! The second, independent program (document 01, end of "Marked examples").
 //!
 //! It answers cases from definitions written from document 01 and the standards alone: plain, bit by
-//! bit, and not fast. It also makes the cases, adds up what document 02, E11, claims of the runs in them, and
-//! compares another program's answers with its own. The framing of cases and answers is set out in
+//! bit, and not fast. It also makes the cases, adds up what document 02, E1 and E11, claims of the runs in them,
+//! and compares another program's answers with its own. The framing of cases and answers is set out in
 //! docs/CASES.md. This file is the command line only.
 
 mod answer;
@@ -14,6 +14,7 @@ mod calls;
 mod case;
 mod clock;
 mod compare;
+mod counts;
 mod crc;
 mod description;
 mod dispersal;

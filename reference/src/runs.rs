@@ -1,7 +1,8 @@
 //! Runs at a sender and at a receiver: each call is handed what the last one left (document 01, "Packets, queues
-//! and receiver"), and what E11 of document 02 claims of such a run is added up beside it.
+//! and receiver"), and what E1 and E11 of document 02 claim of such a run is added up beside it.
 
 use crate::balance::Balance;
+use crate::counts::{Called, Counts};
 use crate::receiver::{Heard, Receiver, BUFFER_BYTES};
 use crate::refusal::Refusal;
 use crate::sender::{HandOut, Sender, Settings, STORE_BYTES};
@@ -12,11 +13,13 @@ use crate::spares::{Frame, Spares};
 pub struct Added {
     /// Packets whose bytes are in the balance.
     pub packets: u64,
+    /// Calls at a sender after which its stored counts were held against its units.
+    pub counts: u64,
     /// Frames with spares, each of which two queues could both take; counted for each two such queues.
     pub frames: u64,
     /// Runs of two or more of these frames.
     pub stretches: u64,
-    /// Where the run is not as E11 has it.
+    /// Where the run is not as E1 and E11 have it.
     pub differences: Vec<String>,
 }
 
@@ -31,6 +34,14 @@ impl Added {
         }
     }
 
+    fn of_counts(counts: &Counts) -> Added {
+        Added {
+            counts: counts.accepted(),
+            differences: counts.differences().to_vec(),
+            ..Added::default()
+        }
+    }
+
     fn of_balance(balance: &Balance) -> Added {
         Added {
             packets: balance.accepted(),
@@ -41,6 +52,7 @@ impl Added {
 
     pub fn add(&mut self, other: &Added) {
         self.packets += other.packets;
+        self.counts += other.counts;
         self.frames += other.frames;
         self.stretches += other.stretches;
         self.differences.extend_from_slice(&other.differences);
@@ -52,11 +64,13 @@ pub struct Sending {
     pub sender: Sender,
     pub store: Vec<u8>,
     spares: Spares,
+    counts: Counts,
 }
 
 impl Sending {
     pub fn new(sender: Sender, store: Vec<u8>) -> Sending {
         Sending {
+            counts: Counts::new(&sender),
             sender,
             store,
             spares: Spares::new(),
@@ -68,23 +82,40 @@ impl Sending {
     }
 
     pub fn load(&mut self, settings: &Settings, id: u64, unit: &[u8]) -> Result<(), Refusal> {
-        self.sender.load(settings, &mut self.store, id, unit)
+        let before = self.sender;
+        let done = self.sender.load(settings, &mut self.store, id, unit);
+        self.called(settings.p, &before, done.err());
+        done
     }
 
     pub fn frame(&mut self, settings: &Settings, output: &mut [u8]) -> Result<HandOut, Refusal> {
         let before = self.sender;
-        let out = self.sender.frame(settings, &mut self.store, output)?;
+        let done = self.sender.frame(settings, &mut self.store, output);
+        self.called(settings.p, &before, done.as_ref().err().copied());
+        let out = done?;
         self.spares.frame(&Frame {
             settings,
-            waiting: before.waiting(settings.p),
+            waiting: before.queues.map(|queue| queue.summed(settings.p)),
             turn: before.turn,
             out: &out,
         });
         Ok(out)
     }
 
+    fn called(&mut self, p: u64, before: &Sender, refusal: Option<Refusal>) {
+        let after = &self.sender;
+        self.counts.call(&Called {
+            p,
+            before,
+            after,
+            refusal,
+        });
+    }
+
     pub fn added(&self) -> Added {
-        Added::of_spares(&self.spares)
+        let mut added = Added::of_spares(&self.spares);
+        added.add(&Added::of_counts(&self.counts));
+        added
     }
 }
 

@@ -1,5 +1,5 @@
 //! The sender of the shared stream: its settings, the hand-out of a frame's packets, and the three queues
-//! (document 01, "Packets, queues and receiver"; "Numbers given back": 13, 14, 15 and 17).
+//! (document 01, "Packets, queues and receiver"; "Numbers given back": 13, 14, 15 and 17; document 02, E1).
 
 use crate::output;
 use crate::packet::{self, Header, FRAMING, LARGEST_P};
@@ -99,6 +99,8 @@ pub struct Queue {
     pub units: u64,
     /// Bytes of the first unit already sent.
     pub sent: u64,
+    /// The stored count of waiting packets.
+    pub waiting: u16,
     /// Bytes left of each unit.
     pub left: [u16; UNITS],
 }
@@ -114,8 +116,8 @@ impl Queue {
         self.there().iter().map(|left| usize::from(*left)).sum()
     }
 
-    /// Packets that the units still take, each unit's rounded up.
-    fn waiting(&self, p: u64) -> u64 {
+    /// Packets that the units still take, each unit's rounded up: what the stored count is held against.
+    pub fn summed(&self, p: u64) -> u64 {
         let packets = |left: &u16| u64::from(*left).div_ceil(p);
         self.there().iter().map(packets).sum()
     }
@@ -130,7 +132,8 @@ impl Queue {
         }
         refuse(17, self.unsent() > QUEUE_BYTES)?;
         refuse(17, !self.sent.is_multiple_of(p))?;
-        refuse(17, self.units == 0 && self.sent > 0)
+        refuse(17, self.units == 0 && self.sent > 0)?;
+        refuse(17, u64::from(self.waiting) != self.summed(p))
     }
 
     /// Takes one packet off the first unit: its first flag, its last flag, its useful bytes.
@@ -140,6 +143,7 @@ impl Queue {
         let (first, last) = (self.sent == 0, useful == left);
         self.sent += useful;
         self.left[0] -= useful as u16;
+        self.waiting -= 1;
         if last {
             self.units -= 1;
             self.sent = 0;
@@ -168,9 +172,9 @@ impl Sender {
         refuse(17, self.indexes.iter().any(|index| *index > HIGHEST_INDEX))
     }
 
-    /// Packets that wait in each queue; p is at least 1.
-    pub fn waiting(&self, p: u64) -> [u64; QUEUES] {
-        self.queues.map(|queue| queue.waiting(p))
+    /// The stored counts.
+    pub fn waiting(&self) -> [u64; QUEUES] {
+        self.queues.map(|queue| u64::from(queue.waiting))
     }
 
     /// Puts a unit behind the bytes of its queue that are not yet sent.
@@ -194,6 +198,7 @@ impl Sender {
         store[place..place + unit.len()].copy_from_slice(unit);
         queue.left[queue.units as usize] = unit.len() as u16;
         queue.units += 1;
+        queue.waiting += unit.len().div_ceil(settings.p as usize) as u16;
         Ok(())
     }
 
@@ -208,7 +213,7 @@ impl Sender {
         settings.check()?;
         self.check(settings.p)?;
         refuse(1, store.len() != STORE_BYTES)?;
-        let handed = hand_out(settings, self.waiting(settings.p), self.turn)?;
+        let handed = hand_out(settings, self.waiting(), self.turn)?;
         let mut next = *self;
         let mut frame = Vec::new();
         for id in 0..QUEUES {
@@ -401,15 +406,28 @@ mod tests {
             assert_eq!(run.load(&settings, 2, unit), Ok(()));
         }
         let mut output = [9; 5];
-        for (front, queue) in [
-            ([3, 4, 5, 4, 5, 7], (2, 2, [1, 2, 0, 0, 0, 0, 0, 0], 0xA0)),
-            ([4, 5, 5, 4, 5, 7], (1, 0, [2, 0, 0, 0, 0, 0, 0, 0], 0x69)),
-            ([4, 5, 5, 4, 5, 7], (0, 0, [0; 8], 0xE2)),
+        let queue = |units, sent, waiting, left| Queue {
+            units,
+            sent,
+            waiting,
+            left,
+        };
+        for (front, queue, header) in [
+            (
+                [3, 4, 5, 4, 5, 7],
+                queue(2, 2, 2, [1, 2, 0, 0, 0, 0, 0, 0]),
+                0xA0,
+            ),
+            (
+                [4, 5, 5, 4, 5, 7],
+                queue(1, 0, 1, [2, 0, 0, 0, 0, 0, 0, 0]),
+                0x69,
+            ),
+            ([4, 5, 5, 4, 5, 7], Queue::default(), 0xE2),
         ] {
-            let (units, sent, left, header) = queue;
             assert!(run.frame(&settings, &mut output).is_ok());
             assert_eq!(run.store[8_192..8_198], front);
-            assert_eq!(run.sender.queues[2], Queue { units, sent, left });
+            assert_eq!(run.sender.queues[2], queue);
             assert_eq!(output[0], header);
         }
         assert_eq!(run.added().differences, [""; 0]);
@@ -437,19 +455,21 @@ mod tests {
         assert_eq!(load(3, 65_529), refused(1));
     }
 
-    /// Every kind of 17, and what is not one.
+    /// Every kind of 17 but a wrong count, and what is not one: the counts are those of the units that are there.
     #[test]
     fn broken_states() {
         let p = 10;
         let good = Queue {
             units: 2,
             sent: 20,
+            waiting: 401,
             left: [5, 4_000, 0, 65_535, 0, 0, 0, 0],
         };
         assert_eq!(good.check(p), Ok(()));
         let full = Queue {
             units: 8,
             sent: 3_580,
+            waiting: 416,
             left: [512; 8],
         };
         assert_eq!(full.check(p), Ok(()));
@@ -477,6 +497,8 @@ mod tests {
             },
         ];
         for queue in broken {
+            let waiting = queue.summed(p) as u16;
+            let queue = Queue { waiting, ..queue };
             assert_eq!(queue.check(p), refused(17));
             for id in 0..QUEUES {
                 let mut sender = Sender::default();

@@ -16,37 +16,35 @@ use Rattle.hand.specs.declared.Settings.{Settings}
 use Rattle.hand.proofs.Allowed.{allowed}
 use Rattle.queue.proofs.Faults.{Sound, sound-of}
 use Rattle.sender.specs.State.{queueOf, indexOf}
-use Rattle.sender.specs.Frame.{handOf, frameNumber, framed, frameFor, frameBytes, frameOut}
+use Rattle.sender.specs.Frame.{framed, frameBytes}
+use Rattle.sender.specs.Kept.{keptFrameNumber, keptFramed, keptFrameFor, keptFrameOut}
 use Rattle.sender.specs.Private.{Fit}
 use Rattle.sender.specs.declared.Sender.{Sender}
 use Rattle.sender.specs.declared.Framed.{Framed}
-use Rattle.sender.specs.declared.Front.{Front}
-use Rattle.sender.specs.Answers as answers
-use Rattle.sender.specs.Outer.{outer, outerFramed}
 use Rattle.sender.proofs.Faults.{Fine, fine-of}
-use Rattle.sender.proofs.Framing.{fit-of}
+use Rattle.sender.proofs.KeptChecks.{going-of}
 use Rattle.demand.specs.Run.{Desk}
 use Rattle.demand.proofs.Good.{Good}
 use Rattle.demand.proofs.Rows.{counted, counted-filler}
 use Rattle.acceptance.specs.Wrong.{Framer, Frames, Shaped, heldBy, Counts, Invents}
 
-module _ (g : Settings) (s : Front) (store out : List ℕ) where
-  number-is : frameFor g s store out .number ≡ frameNumber g s store out
-  unfolding frameFor framed
-  number-is = go (eqb (frameNumber g s store out) 0) refl
+module _ (g : Settings) (s : Sender) (store out : List ℕ) where
+  number-is : keptFrameFor g s store out .number ≡ keptFrameNumber g s store out
+  unfolding keptFrameFor keptFramed
+  number-is = go (eqb (keptFrameNumber g s store out) 0) refl
     where
-      go : (b : Bool) → eqb (frameNumber g s store out) 0 ≡ b
-          → pick b (framed g s) (record { number = frameNumber g s store out; next = s; packets = noThree; spares = 0; filler = 0 }) .number ≡ frameNumber g s store out
+      go : (b : Bool) → eqb (keptFrameNumber g s store out) 0 ≡ b
+          → pick b (keptFramed g s) (record { number = keptFrameNumber g s store out; next = s; packets = noThree; spares = 0; filler = 0 }) .number ≡ keptFrameNumber g s store out
       go true e = sym (eqb-true _ _ e)
       go false e = refl
 
   abbrev desk : Desk
-  desk = record { state = s; store = store }
+  desk = record { state = s .front; store = store }
 
-  module _ (shape : Shaped (outer s)) (e : frameNumber g s store out ≡ 0) where
-    fit : Fit g s (length store) (length out)
-    unfolding frameNumber
-    fit = fit-of g s (length store) (length out) e
+  module _ (shape : Shaped s) (e : keptFrameNumber g s store out ≡ 0) where
+    fit : Fit g (s .front) (length store) (length out)
+    unfolding keptFrameNumber
+    fit = going-of g s (length store) (length out) e .fit
 
     al : Allowed g
     al = allowed g (fit .allowed-in)
@@ -54,53 +52,51 @@ module _ (g : Settings) (s : Front) (store out : List ℕ) where
     -- a state that is not refused is a good one
     good : Good (g .p) desk
     good =
-        let f = fine-of (g .p) s (fit .fine) in
+        let f = fine-of (g .p) (s .front) (fit .fine) in
         record { three = shape .0; queues = qs f; turn = f .turn; indexes = is f; store = fit .whole }
       where
-        qs : Fine (g .p) s → (id : ℕ) → id < 3 → Sound (g .p) (queueOf s id)
-        qs f zero h = sound-of (g .p) (queueOf s 0) (shape .1 0 h) (f .q0)
-        qs f (suc zero) h = sound-of (g .p) (queueOf s 1) (shape .1 1 h) (f .q1)
-        qs f (suc (suc zero)) h = sound-of (g .p) (queueOf s 2) (shape .1 2 h) (f .q2)
+        qs : Fine (g .p) (s .front) → (id : ℕ) → id < 3 → Sound (g .p) (queueOf (s .front) id)
+        qs f zero h = sound-of (g .p) (queueOf (s .front) 0) (shape .1 0 h) (f .q0)
+        qs f (suc zero) h = sound-of (g .p) (queueOf (s .front) 1) (shape .1 1 h) (f .q1)
+        qs f (suc (suc zero)) h = sound-of (g .p) (queueOf (s .front) 2) (shape .1 2 h) (f .q2)
         qs f (suc (suc (suc id))) h = absurd (omega arith)
 
-        is : Fine (g .p) s → (id : ℕ) → id < 4 → indexOf s id ≤ 7
+        is : Fine (g .p) (s .front) → (id : ℕ) → id < 4 → indexOf (s .front) id ≤ 7
         is f zero h = f .i0
         is f (suc zero) h = f .i1
         is f (suc (suc zero)) h = f .i2
         is f (suc (suc (suc zero))) h = f .i3
         is f (suc (suc (suc (suc id)))) h = absurd (omega arith)
 
-    answer-is : frameFor g s store out ≡ framed g s
-    unfolding frameFor
+    answer-is : keptFrameFor g s store out ≡ keptFramed g s
+    unfolding keptFrameFor
     answer-is =
-        ap (λ (b : Bool). pick b (framed g s) (record { number = frameNumber g s store out; next = s; packets = noThree; spares = 0; filler = 0 })) (eq-eqb (frameNumber g s store out) 0 e)
+        ap (λ (b : Bool). pick b (keptFramed g s) (record { number = keptFrameNumber g s store out; next = s; packets = noThree; spares = 0; filler = 0 })) (eq-eqb (keptFrameNumber g s store out) 0 e)
 
-    output-is : frameOut g s store out ≡ written out 0 (frameBytes g s store)
-    unfolding frameOut
-    output-is = ap (λ (b : Bool). pick b (written out 0 (frameBytes g s store)) out) (eq-eqb (frameNumber g s store out) 0 e)
+    output-is : keptFrameOut g s store out ≡ written out 0 (frameBytes g (s .front) store)
+    unfolding keptFrameOut
+    output-is = ap (λ (b : Bool). pick b (written out 0 (frameBytes g (s .front) store)) out) (eq-eqb (keptFrameNumber g s store out) 0 e)
 
-    queues-count : (id : ℕ) → id < 3 → at (frameFor g s store out .packets) id ≡ heldBy g id (frameOut g s store out)
-    unfolding framed written
+    queues-count : (id : ℕ) → id < 3 → at (keptFrameFor g s store out .packets) id ≡ heldBy g id (keptFrameOut g s store out)
+    unfolding keptFramed framed written
     queues-count id h =
-        ap (λ (a : answers.Framed). at (a .packets) id) answer-is
-        ∙ sym (counted g desk good al (drop (0 + length (frameBytes g s store)) out) id h)
+        ap (λ (a : Framed). at (a .packets) id) answer-is
+        ∙ sym (counted g desk good al (drop (0 + length (frameBytes g (s .front) store)) out) id h)
         ∙ ap (heldBy g id) (sym output-is)
 
-    filler-counts : frameFor g s store out .filler ≡ heldBy g 3 (frameOut g s store out)
-    unfolding framed written
+    filler-counts : keptFrameFor g s store out .filler ≡ heldBy g 3 (keptFrameOut g s store out)
+    unfolding keptFramed framed written
     filler-counts =
-        ap (λ (a : answers.Framed). a .filler) answer-is
-        ∙ sym (counted-filler g desk good al (drop (0 + length (frameBytes g s store)) out))
+        ap (λ (a : Framed). a .filler) answer-is
+        ∙ sym (counted-filler g desk good al (drop (0 + length (frameBytes g (s .front) store)) out))
         ∙ ap (heldBy g 3) (sym output-is)
 
 pub counts : (f : Framer) → Frames f → Counts f
-unfolding outerFramed
 counts f meets g s store out shape z =
     let m = meets g s store out in
-    let t = s .front in
-    let e : frameNumber g t store out ≡ 0 = sym (number-is g t store out) ∙ ap (λ (a : Framed). a .number) (sym (m .0)) ∙ z in (
-      (λ id h. ap (λ (a : Framed). at (a .packets) id) (m .0) ∙ queues-count g t store out shape e id h ∙ ap (heldBy g id) (sym (m .2))),
-      ap (λ (a : Framed). a .filler) (m .0) ∙ filler-counts g t store out shape e ∙ ap (heldBy g 3) (sym (m .2)),
+    let e : keptFrameNumber g s store out ≡ 0 = sym (number-is g s store out) ∙ ap (λ (a : Framed). a .number) (sym (m .0)) ∙ z in (
+      (λ id h. ap (λ (a : Framed). at (a .packets) id) (m .0) ∙ queues-count g s store out shape e id h ∙ ap (heldBy g id) (sym (m .2))),
+      ap (λ (a : Framed). a .filler) (m .0) ∙ filler-counts g s store out shape e ∙ ap (heldBy g 3) (sym (m .2)),
     )
 
 pub no-invention : (f : Framer) → Frames f → Invents f → ⊥

@@ -22,9 +22,7 @@ use Rattle.sender.specs.declared.Framed.{Framed}
 use Rattle.sender.specs.declared.Loaded.{Loaded}
 use Rattle.sender.specs.declared.Sender.{Sender}
 use Rattle.sender.specs.State.{queueOf}
-use Rattle.sender.specs.Frame as frames
-use Rattle.sender.specs.Load as loads
-use Rattle.sender.specs.Outer.{outerLoaded, outerFramed}
+use Rattle.sender.specs.Kept.{keptLoadFor, keptStoreFor, keptFrameFor, keptStoreAfter, keptFrameOut}
 
 -- ---- reading an MDI packet
 abbrev pub Reader : Type 0
@@ -75,11 +73,11 @@ Loader = Settings → Sender → ℕ → List ℕ → List ℕ → Loaded × Lis
 
 abbrev pub Loads : Loader → Type 0
 Loads f = (g : Settings) (s : Sender) (id : ℕ) (unit store : List ℕ) →
-    (f g s id unit store .0 ≡ outerLoaded (loads.loadFor g (s .front) id unit store)) × (f g s id unit store .1 ≡ loads.storeFor g (s .front) id unit store)
+    (f g s id unit store .0 ≡ keptLoadFor g s id unit store) × (f g s id unit store .1 ≡ keptStoreFor g s id unit store)
 
--- a loader that takes no unit
+-- a loader that takes no unit, whatever it counts
 abbrev pub TakesNone : Loader → Type 0
-TakesNone f = (g : Settings) (s : Sender) (id : ℕ) (unit store : List ℕ) → f g s id unit store .0 .next ≡ s
+TakesNone f = (g : Settings) (s : Sender) (id : ℕ) (unit store : List ℕ) → f g s id unit store .0 .next .front ≡ s .front
 
 -- ---- a frame: settings, state, store and output before it; answer, store and output after it
 abbrev pub Framer : Type 0
@@ -87,8 +85,7 @@ Framer = Settings → Sender → List ℕ → List ℕ → Framed × List ℕ ×
 
 abbrev pub Frames : Framer → Type 0
 Frames f = (g : Settings) (s : Sender) (store out : List ℕ) →
-    (f g s store out .0 ≡ outerFramed (frames.frameFor g (s .front) store out)) × (f g s store out .1 ≡ frames.storeAfter g (s .front) store out)
-    × (f g s store out .2 ≡ frames.frameOut g (s .front) store out)
+    (f g s store out .0 ≡ keptFrameFor g s store out) × (f g s store out .1 ≡ keptStoreAfter g s store out) × (f g s store out .2 ≡ keptFrameOut g s store out)
 
 -- the id of a frame's first packet: filler comes last, so a frame that begins with id 3 holds nothing else
 abbrev pub firstId : ℕ → List ℕ → ℕ

@@ -8,10 +8,7 @@ ghost use Rattle.packet.specs.Calls.{checkFor};
 ghost use Rattle.hand.specs.Settings.{settingsFor};
 ghost use Rattle.receiver.specs.Receiver.{bufferFor};
 ghost use Rattle.receiver.specs.Dropped.{reportFor};
-ghost use Rattle.sender.specs.State.{fresh};
-ghost use Rattle.sender.specs.Load.{loadFor, storeFor};
-ghost use Rattle.sender.specs.Frame.{frameFor, storeAfter, frameOut};
-ghost use Rattle.sender.specs.Outer.{outer, outerLoaded, outerFramed};
+ghost use Rattle.sender.specs.Kept.{freshKept, keptLoadFor, keptStoreFor, keptFrameFor, keptStoreAfter, keptFrameOut};
 ghost use Rattle.host.specs.Received.{unheard, receivedBy, receivedFor, said};
 use hand::Settings;
 use receiver::Answer;
@@ -56,7 +53,7 @@ pub extern "C" fn keshgurvat_settings_check(settings: Settings) -> u32
 
 #[no_mangle]
 pub extern "C" fn keshgurvat_sender_fresh() -> Sender
-    ensures { λ r. ⌜ r ≡ outer fresh ⌝ }
+    ensures { λ r. ⌜ r ≡ freshKept ⌝ }
 {
     Sender::fresh()
 }
@@ -69,8 +66,8 @@ pub extern "C" fn keshgurvat_load(
     id: usize,
     unit: &[u8],
 ) -> Loaded
-    ensures answer { λ r. ⌜ r ≡ outerLoaded (loadFor settings (state .front) id (now (unit .entry)) (now (store .entry))) ⌝ }
-    ensures memory { λ _. ⌜ now (store .exit) ≡ storeFor settings (state .front) id (now (unit .entry)) (now (store .entry)) ⌝ }
+    ensures answer { λ r. ⌜ r ≡ keptLoadFor settings state id (now (unit .entry)) (now (store .entry)) ⌝ }
+    ensures memory { λ _. ⌜ now (store .exit) ≡ keptStoreFor settings state id (now (unit .entry)) (now (store .entry)) ⌝ }
 {
     state.load(settings, store, id, unit)
 }
@@ -82,9 +79,9 @@ pub extern "C" fn keshgurvat_frame(
     store: &mut [u8],
     out: &mut [u8],
 ) -> Framed
-    ensures answer { λ r. ⌜ r ≡ outerFramed (frameFor settings (state .front) (now (store .entry)) (now (out .entry))) ⌝ }
-    ensures kept { λ _. ⌜ now (store .exit) ≡ storeAfter settings (state .front) (now (store .entry)) (now (out .entry)) ⌝ }
-    ensures written { λ _. ⌜ now (out .exit) ≡ frameOut settings (state .front) (now (store .entry)) (now (out .entry)) ⌝ }
+    ensures answer { λ r. ⌜ r ≡ keptFrameFor settings state (now (store .entry)) (now (out .entry)) ⌝ }
+    ensures kept { λ _. ⌜ now (store .exit) ≡ keptStoreAfter settings state (now (store .entry)) (now (out .entry)) ⌝ }
+    ensures written { λ _. ⌜ now (out .exit) ≡ keptFrameOut settings state (now (store .entry)) (now (out .entry)) ⌝ }
 {
     state.frame(settings, store, out)
 }

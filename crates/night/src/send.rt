@@ -10,11 +10,9 @@ pub(crate) struct Sent {
     pub(crate) book: [usize; SLOTS],
 }
 
-// The packets that wait in a queue.
-fn waiting(s: Sender, id: usize, p: usize) -> usize {
-    let f = s.front;
-    let q = f.q[id % 3];
-    q.waiting((p % 256) as u8)
+// The packets that wait in a queue, as the state has them (02, E1): nothing is added up.
+fn waiting(s: Sender, id: usize) -> usize {
+    s.waiting[id % 3] as usize
 }
 
 // A unit of the queue is due, and none was refused before this frame.
@@ -33,7 +31,7 @@ fn load(n: Sent, id: usize, store: &mut [u8]) -> Sent {
     }
     let done = fit::offer(book, n.s, id, store);
     let s = done.next;
-    let waiting = waiting(s, id, book[night_plan::P]);
+    let waiting = waiting(s, id);
     let book = night_book::note(book, id, done.number, waiting);
     Sent { s, book }
 }
@@ -78,8 +76,7 @@ fn unfinished(s: Sender) -> Three {
 
 // The end of a frame, with the units that are not wholly sent and the packets that wait now.
 pub(crate) fn end(s: Sender, book: [usize; SLOTS]) -> Sent {
-    let p = book[night_plan::P];
     let book = night_book::settle(book, unfinished(s));
-    let book = night_book::end_frame(book, waiting(s, 0, p), waiting(s, 1, p), waiting(s, 2, p));
+    let book = night_book::end_frame(book, waiting(s, 0), waiting(s, 1), waiting(s, 2));
     Sent { s, book }
 }

@@ -57,21 +57,27 @@ module _ (p : ℕ) (q : Queue) where
   unfolding broken unsent lengths anyEmpty anyOver addUp
   broken-none r e h z = simp (← e, eq-eqb _ _ h, z)
 
-  module _ (l8 : length (q .left) ≡ 8) (h : q .count ≤ 8) (z : Bool) (ez : z ≡ anyEmpty (units q)) (fz : z ≡ false) (u : ℕ) (eu : u ≡ unsent q) (fu : u ≤ 4096)
-      (r : ℕ) (er : r ≡ q .sent % p) (fr : r ≡ 0) (some : q .count ≡ 0 → ⊥) where
-    over : anyOver 4096 (lengths (q .sent) (units q)) ≡ ltb 4096 (getD (q .left) 0 0 + q .sent)
+  module _ (l8 : length (q .left) ≡ 8) (h : q .count ≤ 8) (u : ℕ) (eu : u ≡ unsent q) (fu : u ≤ 4096) where
+    over : (q .count ≡ 0 → ⊥) → anyOver 4096 (lengths (q .sent) (units q)) ≡ ltb 4096 (getD (q .left) 0 0 + q .sent)
     unfolding unsent
-    over =
+    over some =
         let f = first-is q l8 h (omega arith) in
         over-first (q .sent) (units q) (omega arith) (f .1) ∙ ap (λ (x : ℕ). ltb 4096 (x + q .sent)) (f .0)
 
-    pub broken-is : (x : ℕ) → x ≡ getD (q .left) 0 0 → ltb 4096 (x + q .sent) ≡ broken p q
-    unfolding broken
-    broken-is x e =
-        simp (le-ltb _ _ h, ← ez, fz, over, ← eu, le-ltb _ _ fu, ← er, eq-eqb _ _ fr, ne-eqb _ _ some, e, or-none)
-
+    -- with a first unit its length is over, without one nothing may be sent
     pub broken-far : 4096 < q .sent → true ≡ broken p q
-    broken-far k = sym (lt-ltb 4096 (getD (q .left) 0 0 + q .sent) (omega arith)) ∙ broken-is (getD (q .left) 0 0) refl
+    unfolding broken
+    broken-far k = go (q .count) refl
+      where
+        go : (n : ℕ) → q .count ≡ n → true ≡ broken p q
+        go zero e = simp (eq-eqb (q .count) 0 e, lt-ltb 0 (q .sent) (omega arith), or-true)
+        go (suc n) e = simp (over (λ z. omega arith), lt-ltb 4096 (getD (q .left) 0 0 + q .sent) (omega arith), or-true)
+
+    pub broken-is : (z : Bool) → z ≡ anyEmpty (units q) → z ≡ false → (r : ℕ) → r ≡ q .sent % p → r ≡ 0 → (q .count ≡ 0 → ⊥) → (x : ℕ) → x ≡ getD (q .left) 0 0
+        → ltb 4096 (x + q .sent) ≡ broken p q
+    unfolding broken
+    broken-is z ez fz r er fr some x e =
+        simp (le-ltb _ _ h, ← ez, fz, over some, ← eu, le-ltb _ _ fu, ← er, eq-eqb _ _ fr, ne-eqb _ _ some, e, or-none)
 
 -- ---- a queue without faults
 pub record Sound (p : ℕ) (q : Queue) : Type 0 where
@@ -137,6 +143,6 @@ sound-ok p q s = go (q .count) refl
     go : (n : ℕ) → q .count ≡ n → broken p q ≡ false
     go zero e = sym (broken-none p q (q .sent % p) refl (s .whole) e) ∙ ap (ltb 0) (s .empty e)
     go (suc n) e =
-        sym (broken-is p q (s .eight) (s .count) (anyEmpty (units q)) refl (pos-empty (units q) (s .pos)) (unsent q) refl (s .bytes) (q .sent % p) refl (s .whole)
+        sym (broken-is p q (s .eight) (s .count) (unsent q) refl (s .bytes) (anyEmpty (units q)) refl (pos-empty (units q) (s .pos)) (q .sent % p) refl (s .whole)
         (λ z. omega arith) (getD (q .left) 0 0) refl)
         ∙ le-ltb 4096 (getD (q .left) 0 0 + q .sent) (s .first (omega arith))

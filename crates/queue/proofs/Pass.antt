@@ -1,16 +1,19 @@
--- One pass over a queue's units: none of the first i is empty, and their bytes are added up. Assumes nothing.
-use Prim.Native.Nat.{ℕ, _+_, _%_, _<_, _≤_, min}
+-- One pass over a queue's units: none of the first i is empty, and their bytes, or bytes and packets, are added up. Assumes nothing.
+use Prim.Native.Nat.{ℕ, _+_, _<_, _≤_, min}
 use mathlib.Core.Path.{_≡_, refl, sym, _∙_}
 use mathlib.Core.List.{List}
-use mathlib.Core.Bool.{true, false}
+use mathlib.Core.Bool.{Bool, true, false}
 use native.Mathlib.Omega.{arith}
-use lib.Dec.{ltb}
+use borrow.Author.Tests.{eq-eqb, ne-eqb}
 use lib.ListN.{length, getD}
-use Rattle.queue.specs.Queue.{same, units, unsent, anyEmpty, broken}
+use Rattle.laws.proofs.Flags.{or-true, or-none}
+use Rattle.queue.specs.Queue.{same, packets, units, unsent, waiting, anyEmpty, broken}
+use Rattle.queue.specs.Stored.{miscounts, wrong}
 use Rattle.queue.specs.declared.Queue.{Queue}
-use Rattle.queue.proofs.Sums.{Summed, summed-none, summed-more, summed-bytes, Sought, sought-none, sought-more, sought-found, sought-all}
-use Rattle.queue.proofs.Faults.{broken-empty, broken-unsent, broken-far, broken-is}
+use Rattle.queue.proofs.Sums.{Summed, summed-none, summed-more, summed-bytes, summed-packets, Sought, sought-none, sought-more, sought-found, sought-all}
+use Rattle.queue.proofs.Faults.{broken-count, broken-empty}
 
+-- ---- the units and their bytes
 pub record Pass (l : List ℕ) (n i bytes : ℕ) : Type 0 where
   pub none : Sought l n i
   pub bytes-are : Summed same l n 65535 i bytes
@@ -25,7 +28,23 @@ pass-more l n i bytes x l8 h ex hx hz k =
       bytes-are = summed-more same l n 65535 i bytes x x l8 h ex refl hx (k .bytes-are);
     }
 
--- ---- what is answered within it and behind it
+-- ---- and their packets
+pub record Counted (p : ℕ) (l : List ℕ) (n i bytes sum : ℕ) : Type 0 where
+  pub pass : Pass l n i bytes
+  pub sum-is : Summed (packets p) l n 65535 i sum
+
+pub counted-none : (p : ℕ) (l : List ℕ) (n : ℕ) → n ≤ 8 → Counted p l n 0 0 0
+counted-none p l n h = record { pass = pass-none l n h; sum-is = summed-none (packets p) l n 65535 h }
+
+pub counted-more : (p : ℕ) (l : List ℕ) (n i bytes sum x y : ℕ) → length l ≡ 8 → i < n → x ≡ getD l i 0 → x ≤ 65535 → (x ≡ 0 → ⊥) → y ≡ packets p x → y ≤ 65535
+    → Counted p l n i bytes sum → Counted p l n (i + 1) (bytes + x) (sum + y)
+counted-more p l n i bytes sum x y l8 h ex hx hz ey hy k =
+    record {
+      pass = pass-more l n i bytes x l8 h ex hx hz (k .pass);
+      sum-is = summed-more (packets p) l n 65535 i sum x y l8 h ex ey hy (k .sum-is);
+    }
+
+-- ---- what is answered within it, and what it found
 module _ (p : ℕ) (q : Queue) (l8 : length (q .left) ≡ 8) (h : q .count ≤ 8) where
   few : q .count ≡ min (q .count) 8
   few = omega arith
@@ -33,19 +52,41 @@ module _ (p : ℕ) (q : Queue) (l8 : length (q .left) ≡ 8) (h : q .count ≤ 8
   pub pass-empty : (i x : ℕ) → i < q .count → x ≡ getD (q .left) i 0 → x ≡ 0 → true ≡ broken p q
   pass-empty i x k ex z = broken-empty p q true (sought-found q (q .count) i l8 few k (sym ex ∙ z)) refl
 
-  module _ (i bytes : ℕ) (over : q .count ≤ i) (k : Pass (q .left) (q .count) i bytes) where
-    unsent-is : bytes ≡ unsent q
-    unsent-is = summed-bytes q (q .count) i bytes 65535 l8 few over (k .bytes-are)
+  module _ (i bytes : ℕ) (over : q .count ≤ i) where
+    module _ (k : Pass (q .left) (q .count) i bytes) where
+      pub pass-some : anyEmpty (units q) ≡ false
+      pass-some = sym (sought-all q (q .count) i l8 few over (k .none))
 
-    pub pass-over : 4096 < bytes → true ≡ broken p q
-    pass-over b = broken-unsent p q bytes unsent-is b
+      pub pass-bytes : bytes ≡ unsent q
+      pass-bytes = summed-bytes q (q .count) i bytes 65535 l8 few over (k .bytes-are)
 
-    module _ (fu : bytes ≤ 4096) (r : ℕ) (er : r ≡ q .sent % p) (fr : r ≡ 0) (some : q .count ≡ 0 → ⊥) where
-      none-empty : false ≡ anyEmpty (units q)
-      none-empty = sought-all q (q .count) i l8 few over (k .none)
+    module _ (sum : ℕ) (k : Counted p (q .left) (q .count) i bytes sum) where
+      pub counted-some : anyEmpty (units q) ≡ false
+      counted-some = pass-some (k .pass)
 
-      pub pass-far : 4096 < q .sent → true ≡ broken p q
-      pass-far f = broken-far p q l8 h false none-empty refl bytes unsent-is fu r er fr some f
+      pub counted-bytes : bytes ≡ unsent q
+      counted-bytes = pass-bytes (k .pass)
 
-      pub pass-is : (x : ℕ) → x ≡ getD (q .left) 0 0 → ltb 4096 (x + q .sent) ≡ broken p q
-      pass-is x ex = broken-is p q l8 h false none-empty refl bytes unsent-is fu r er fr some x ex
+      sum-here : sum ≡ waiting p q
+      sum-here = summed-packets p q (q .count) i sum 65535 l8 few over (k .sum-is)
+
+      module _ (stored c : ℕ) (ec : c ≡ stored) where
+        pub wrong-sum : (c ≡ sum → ⊥) → true ≡ wrong p q stored
+        unfolding wrong miscounts
+        wrong-sum d = simp (ne-eqb stored (waiting p q) (λ z. d (ec ∙ z ∙ sym sum-here)), or-true)
+
+        pub wrong-is : c ≡ sum → (b : Bool) → b ≡ broken p q → b ≡ wrong p q stored
+        unfolding wrong miscounts
+        wrong-is es b e = simp (eq-eqb stored (waiting p q) (sym ec ∙ es ∙ sum-here), ← e) (sym (or-none b))
+
+-- ---- a fault of the queue is one of the two
+wrong-if : (p : ℕ) (q : Queue) (stored : ℕ) → true ≡ broken p q → true ≡ wrong p q stored
+unfolding wrong
+wrong-if p q stored e = simp (← e)
+
+module _ (p : ℕ) (q : Queue) (stored : ℕ) where
+  pub wrong-count : 8 < q .count → true ≡ wrong p q stored
+  wrong-count h = wrong-if p q stored (broken-count p q h)
+
+  pub wrong-empty : length (q .left) ≡ 8 → q .count ≤ 8 → (i x : ℕ) → i < q .count → x ≡ getD (q .left) i 0 → x ≡ 0 → true ≡ wrong p q stored
+  wrong-empty l8 h i x k ex z = wrong-if p q stored (pass-empty p q l8 h i x k ex z)

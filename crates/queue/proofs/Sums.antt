@@ -1,9 +1,9 @@
 -- The loops over a queue's units. Assumes nothing.
-use Prim.Native.Nat.{ℕ, zero, suc, _+_, _-_, _*_, _/_, _<_, _≤_, min}
+use Prim.Native.Nat.{ℕ, zero, suc, _+_, _-_, _*_, _/_, _%_, _<_, _≤_, min}
 use mathlib.Core.Path.{_≡_, refl, sym, ap, _∙_}
 use mathlib.Core.List.{List, [], _∷_, _++_}
 use mathlib.Core.Bool.{Bool, true, false, _||_}
-use native.Mathlib.Nat.{div-le-self, div-zero}
+use native.Mathlib.Nat.{div-zero, div-add-mod', mul-le-mul-right}
 use native.Mathlib.Numerals.{add-one}
 use native.Mathlib.Omega.{arith}
 use borrow.Author.Tests.{eq-eqb, ne-eqb, lt-ltb, le-ltb}
@@ -73,8 +73,19 @@ pub packets-is : (p w x : ℕ) → w ≡ p → (x + (w - 1)) / w ≡ packets p x
 unfolding packets
 packets-is p w x e = rw e refl
 
-pub packets-le : (w x : ℕ) → w < 256 → x ≤ 65535 → (x + (w - 1)) / w ≤ 65790
-packets-le w x h k = omega (arith, div-le-self (x + (w - 1)) w)
+-- no more than the bytes
+pub over-bytes : (w x : ℕ) → 1 ≤ w → (x + (w - 1)) / w ≤ x
+over-bytes w x h = go ((x + (w - 1)) / w) refl
+  where
+    go : (k : ℕ) → (x + (w - 1)) / w ≡ k → (x + (w - 1)) / w ≤ x
+    go zero e = omega arith
+    go (suc k) e =
+        let d : suc k * w + (x + (w - 1)) % w ≡ x + (w - 1) = ap (λ (q : ℕ). q * w + (x + (w - 1)) % w) (sym e) ∙ div-add-mod' (x + (w - 1)) w in
+        let m : suc k * w ≡ k * w + w = omega arith in
+        omega (arith, mul-le-mul-right k h)
+
+pub packets-fit : (w y : ℕ) → (w ≡ 0 → ⊥) → y ≤ 65535 → (y + (w - 1)) / w ≤ 65535
+packets-fit w y h k = omega (arith, over-bytes w y (omega arith))
 
 -- ---- a unit with no byte left
 empty-append : (a b : List ℕ) → anyEmpty (a ++ b) ≡ anyEmpty a || anyEmpty b

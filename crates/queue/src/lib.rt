@@ -1,7 +1,9 @@
 // One queue of units (01, "Packets, queues and receiver"): its state by value, in numbers. The bytes themselves stand in the lent store.
 ghost use mathlib.Core.Path.{_≡_};
+ghost use mathlib.Core.Bool.{false};
 ghost use Prim.Native.Nat.{_%_, _≤_, min};
-ghost use Rattle.queue.specs.Queue.{packets, unsent, waiting, broken, noUnits, pushed};
+ghost use Rattle.queue.specs.Queue.{packets, units, unsent, anyEmpty, broken, noUnits, pushed};
+ghost use Rattle.queue.specs.Stored.{wrong};
 ghost use Rattle.queue.specs.Taken.{headLen, dropFirst, popFor};
 
 // Up to eight units that are not finished, in the order of loading: the bytes left of each, and how many bytes of the first are sent.
@@ -18,16 +20,22 @@ fn wide(x: u16) -> usize
     x as usize
 }
 
-// The packets of p data bytes that x bytes take.
-fn packets(p: u8, x: usize) -> usize
+fn packets_of(p: u8, x: usize) -> usize
     requires { ⌜ x ≤ 65535 ⌝ }
-    ensures { λ r. ⌜ (r ≡ packets p x) × (r ≤ 65790) ⌝ }
+    ensures { λ r. ⌜ (r ≡ packets p x) × (r ≤ 65535) ⌝ }
 {
     if p == 0 {
         return 0;
     }
     let w = p as usize;
     (x + (w - 1)) / w
+}
+
+// The packets of p data bytes that x bytes take.
+pub fn packets(p: u8, x: u16) -> u16
+    ensures { λ r. ⌜ r ≡ packets p x ⌝ }
+{
+    packets_of(p, wide(x)) as u16
 }
 
 fn rest(x: usize, p: u8) -> usize
@@ -74,19 +82,27 @@ impl Queue {
         bytes
     }
 
-    // The packets of p data bytes not yet sent.
-    pub fn waiting(self, p: u8) -> usize
-        ensures { λ r. ⌜ r ≡ waiting p self ⌝ }
+    // What is left of refusal 17 where there are at most eight units, none of them empty, and their bytes are added up.
+    fn is_over(self, p: u8, bytes: usize) -> bool
+        requires { ⌜ (self .count ≤ 8) × (anyEmpty (units self) ≡ false) × (bytes ≡ unsent self) ⌝ }
+        ensures { λ r. ⌜ r ≡ broken p self ⌝ }
     {
-        let n = self.used();
-        let left = self.left;
-        let mut i = 0;
-        let mut sum: usize = 0;
-        while i < n {
-            sum += packets(p, wide(left[i]));
-            i += 1;
+        let sent = self.sent;
+        if 4096 < bytes {
+            return true;
         }
-        sum
+        // More than a unit can have: a fault with a first unit and without one, and from here on the sum fits.
+        if 4096 < sent {
+            return true;
+        }
+        if rest(sent, p) != 0 {
+            return true;
+        }
+        if self.count == 0 {
+            return 0 < sent;
+        }
+        // The first unit's length is what is left and what is sent.
+        4096 < wide(self.left[0]) + sent
     }
 
     // One of the faults of refusal 17, in one pass over the units.
@@ -94,7 +110,6 @@ impl Queue {
         ensures { λ r. ⌜ r ≡ broken p self ⌝ }
     {
         let n = self.count;
-        let sent = self.sent;
         if 8 < n {
             return true;
         }
@@ -109,20 +124,34 @@ impl Queue {
             unsent += x;
             i += 1;
         }
-        if 4096 < unsent {
+        self.is_over(p, unsent)
+    }
+
+    // One of them, or a stored count that is not the sum of the packets that its units take; in one pass as well.
+    pub fn is_wrong(self, p: u8, stored: u16) -> bool
+        ensures { λ r. ⌜ r ≡ wrong p self stored ⌝ }
+    {
+        let there = self.count;
+        if 8 < there {
             return true;
         }
-        if rest(sent, p) != 0 {
+        let left = self.left;
+        let mut i = 0;
+        let mut unsent: usize = 0;
+        let mut sum: usize = 0;
+        while i < there {
+            let unit = wide(left[i]);
+            if unit == 0 {
+                return true;
+            }
+            unsent += unit;
+            sum += packets_of(p, unit);
+            i += 1;
+        }
+        if wide(stored) != sum {
             return true;
         }
-        if n == 0 {
-            return 0 < sent;
-        }
-        // The first unit's length is what is left and what is sent: the sum is formed only where it fits.
-        if 4096 < sent {
-            return true;
-        }
-        4096 < wide(left[0]) + sent
+        self.is_over(p, unsent)
     }
 
     // One unit of n unsent more, where there are fewer than eight.

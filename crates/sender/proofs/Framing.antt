@@ -5,7 +5,7 @@ use mathlib.Core.List.{List, [], _++_}
 use mathlib.Core.Bool.{Bool, true, false, not}
 use native.Mathlib.Nat.{mul-le-mul-right}
 use native.Mathlib.Omega.{arith}
-use borrow.Author.Tests.{eq-eqb, ne-eqb, lt-ltb, le-ltb, le-leb, eqb-true, ltb-false, not-false}
+use borrow.Author.Tests.{eq-eqb, le-ltb, le-leb, eqb-true, ltb-false, not-false}
 use lib.Dec.{eqb, lit<}
 use lib.ListN.{length, take, drop, length-drop, length-append}
 use lib.Seq.{take-all, length-take-le}
@@ -17,7 +17,7 @@ use Rattle.laws.proofs.Refuse.{free, accepted}
 use Rattle.laws.proofs.Written.{write-next}
 use Rattle.packet.specs.Packet.{packetOf, encode}
 use Rattle.hand.specs.Settings.{total, settingsFor, Allowed}
-use Rattle.hand.specs.Hand.{noThree, handFor}
+use Rattle.hand.specs.Hand.{handFor}
 use Rattle.hand.specs.declared.Three.{Three}
 use Rattle.hand.specs.declared.Settings.{Settings}
 use Rattle.hand.specs.declared.Handed.{Handed}
@@ -33,8 +33,8 @@ use Rattle.row.specs.Row.{headLen, popped, packetAt, stepped, steps, outs, star
 use Rattle.row.specs.declared.Out.{Out}
 use Rattle.queue.proofs.Taken.{headLen-p}
 use Rattle.row.proofs.Steps.{Fit, fit-back, outs-length}
-use Rattle.sender.specs.State.{queueOf, indexOf, outOf, brokenState, waitingOf}
-use Rattle.sender.specs.Frame.{handOf, rowAt, nulls, framePackets, endOf, endsOf, nextFrom, closed, closedAll, frameTests, frameNumber, framed, frameFor, frameBytes, frameOut, storeAfter}
+use Rattle.sender.specs.State.{queueOf, indexOf, outOf, waitingOf}
+use Rattle.sender.specs.Frame.{handOf, rowAt, nulls, framePackets, endOf, endsOf, nextFrom, closed, closedAll, frameTests, framed, frameBytes}
 use Rattle.sender.specs.Private.{Ready}
 use Rattle.sender.specs.Private as private
 use Rattle.sender.specs.declared.Front.{Front}
@@ -62,7 +62,7 @@ part-length : (store : List ℕ) (id : ℕ) → id < 3 → length store ≡ 1228
 part-length store id h l = length-take-le 4096 (drop (id * 4096) store) (omega (arith, length-drop (id * 4096) store))
 
 -- a queue, and its index
-fine-queue : (p : ℕ) (s : Front) (id : ℕ) → id < 3 → Fine p s → (broken p (queueOf s id) ≡ false) × (indexOf s id ≤ 7)
+pub fine-queue : (p : ℕ) (s : Front) (id : ℕ) → id < 3 → Fine p s → (broken p (queueOf s id) ≡ false) × (indexOf s id ≤ 7)
 fine-queue p s zero h f = (f .q0, f .i0)
 fine-queue p s (suc zero) h f = (f .q1, f .i1)
 fine-queue p s (suc (suc zero)) h f = (f .q2, f .i2)
@@ -161,30 +161,6 @@ pub product-in : (g : Settings) (k : ℕ) → k ≡ settingsFor g → k ≡ 0 �
 product-in g k ek hk = allowed g (sym ek ∙ hk) .room
 
 module _ (g : Settings) (s : Front) (room size : ℕ) where
-  pub no-13 : (k : ℕ) → k ≡ settingsFor g → (k ≡ 0 → ⊥) → 13 ≡ refusedWith (frameTests g s room size)
-  unfolding frameTests
-  no-13 k e h = simp (← e, ne-eqb k 0 h)
-
-  module _ (k : ℕ) (ek : k ≡ settingsFor g) (hk : k ≡ 0) where
-    module _ (b : Bool) (eb : b ≡ brokenState (g .p) s) where
-      pub no-17 : b ≡ true → 17 ≡ refusedWith (frameTests g s room size)
-      unfolding frameTests
-      no-17 h = simp (← ek, eq-eqb k 0 hk, ← eb, h)
-
-      module _ (hb : b ≡ false) where
-        pub no-1 : (room ≡ 12288 → ⊥) → 1 ≡ refusedWith (frameTests g s room size)
-        unfolding frameTests
-        no-1 h = simp (← ek, eq-eqb k 0 hk, ← eb, hb, ne-eqb _ _ h)
-
-        module _ (hr : room ≡ 12288) where
-          pub no-1-late : size < g .n * (g .p + 3) → 1 ≡ refusedWith (frameTests g s room size)
-          unfolding frameTests
-          no-1-late h = simp (← ek, eq-eqb k 0 hk, ← eb, hb, eq-eqb _ _ hr, lt-ltb _ _ h)
-
-          pub no-0 : g .n * (g .p + 3) ≤ size → 0 ≡ refusedWith (frameTests g s room size)
-          unfolding frameTests
-          no-0 h = simp (← ek, eq-eqb k 0 hk, ← eb, hb, eq-eqb _ _ hr, le-ltb _ _ h)
-
   pub fit-of : refusedWith (frameTests g s room size) ≡ 0 → private.Fit g s room size
   unfolding frameTests
   fit-of e =
@@ -259,22 +235,6 @@ module _ (g : Settings) (s : Front) (room size : ℕ) (f : private.Fit g s room 
         ed
         ∙ ap (λ (k : ℕ). written out 0 (framePackets k s store (h .packets) (h .filler))) ep
         ∙ ap (λ (x : Handed). written out 0 (framePackets (g .p) s store (x .packets) (x .filler))) hand-here
-
--- ---- the call
-module _ (g : Settings) (s : Front) (store out : List ℕ) (k : ℕ) (e : k ≡ refusedWith (frameTests g s (length store) (length out))) where
-  pub frame-refused : (k ≡ 0 → ⊥)
-      → (_≡_ {A = Framed} (record { number = k; next = s; packets = noThree; spares = 0; filler = 0 }) (frameFor g s store out))
-      × ((store ≡ storeAfter g s store out) × (out ≡ frameOut g s store out))
-  unfolding frameFor storeAfter frameOut frameNumber
-  frame-refused h = (simp (← e, ne-eqb k 0 h), (simp (← e, ne-eqb k 0 h), simp (← e, ne-eqb k 0 h)))
-
-  pub frame-fit : k ≡ 0 → private.Fit g s (length store) (length out)
-  frame-fit z = fit-of g s (length store) (length out) (sym e ∙ z)
-
-  pub frame-done : k ≡ 0 → (r : Framed) (d f : List ℕ) → r ≡ framed g s → d ≡ closedAll (g .p) s (handOf g s .packets) store → f ≡ written out 0 (frameBytes g s store)
-      → (r ≡ frameFor g s store out) × ((d ≡ storeAfter g s store out) × (f ≡ frameOut g s store out))
-  unfolding frameFor storeAfter frameOut frameNumber
-  frame-done z r d f er ed ef = (simp (← e, z) er, (simp (← e, z) ed, simp (← e, z) ef))
 
 -- ---- the store
 pub close-is : (store d : List ℕ) (id u : ℕ) (o : Out) → u ≡ unsent (o .q) → d ≡ pulled store (id * 4096) (id * 4096 + o .at) u → d ≡ closed store id o

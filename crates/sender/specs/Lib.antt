@@ -2,5 +2,5 @@ pub mod State
 pub mod Answers
 pub mod Load
 pub mod Frame
-pub mod Outer
+pub mod Kept
 pub mod Private

@@ -6,15 +6,15 @@ use queue::Queue;
 use row::Out;
 ghost use mathlib.Core.Path.{_≡_};
 ghost use Prim.Native.Nat.{_+_, _*_, _%_, _≤_, _<_};
-ghost use lib.ListN.{length};
+ghost use lib.ListN.{length, getD};
 ghost use Rattle.laws.specs.Refuse.{refusedWith};
 ghost use Rattle.laws.specs.Written.{written};
 ghost use Rattle.hand.specs.Settings.{total};
-ghost use Rattle.sender.specs.State.{indexOf, brokenState, fresh, waitingOf};
-ghost use Rattle.sender.specs.Load.{full, loadTests, loadFor, storeFor, loaded, placedIn};
-ghost use Rattle.sender.specs.Private.{Accepted, Ready, Fit};
-ghost use Rattle.sender.specs.Outer.{outer, outerLoaded, outerFramed};
-ghost use Rattle.sender.specs.Frame.{endOf, endsOf, nextFrom, rowAt, nulls, framePackets, closed, closedAll, frameTests, handOf, framed, frameBytes, frameFor, storeAfter, frameOut};
+ghost use Rattle.sender.specs.State.{indexOf, fresh};
+ghost use Rattle.sender.specs.Load.{loaded};
+ghost use Rattle.sender.specs.Frame.{endOf, endsOf, nextFrom, rowAt, nulls, framePackets, closed, closedAll, handOf, frameBytes};
+ghost use Rattle.sender.specs.Kept.{countsOf, freshKept, keptLoadFor, keptStoreFor, keptFrameTests, keptFramed, keptFrameFor, keptStoreAfter, keptFrameOut};
+ghost use Rattle.sender.specs.Private.{Ready, faulty, Shape, unitTests, noRoom, Entering, Going, less};
 
 // The three queues, whose turn it is to get a spare, and the next continuity index of each id, filler last.
 // The unsent bytes of each queue stand at the front of its part of the store: hence the name.
@@ -25,10 +25,12 @@ pub struct Front {
     pub index: [u8; 4],
 }
 
-// What callers hold from one call to the next.
+// What callers hold from one call to the next: the packets that wait in each queue beside it (02, E1), for who shows them; load and frame
+// keep them, and refuse a state in which they are wrong.
 #[repr(C)]
 pub struct Sender {
     pub front: Front,
+    pub waiting: [u16; 3],
 }
 
 // The number, and the state after the call.
@@ -68,112 +70,6 @@ impl Front {
             q: q,
             turn: 0,
             index: index,
-        }
-    }
-
-    // One of the faults of refusal 17.
-    fn is_broken(self, p: u8) -> bool
-        ensures { λ r. ⌜ r ≡ brokenState p self ⌝ }
-    {
-        let a = self.q[0];
-        if a.is_broken(p) {
-            return true;
-        }
-        let b = self.q[1];
-        if b.is_broken(p) {
-            return true;
-        }
-        let c = self.q[2];
-        if c.is_broken(p) {
-            return true;
-        }
-        if 2 < self.turn {
-            return true;
-        }
-        let index = self.index;
-        if 7 < index[0] {
-            return true;
-        }
-        if 7 < index[1] {
-            return true;
-        }
-        if 7 < index[2] {
-            return true;
-        }
-        7 < index[3]
-    }
-
-    // Queue id has eight units, or not n bytes of room.
-    fn is_full(self, id: usize, n: usize) -> bool
-        requires { ⌜ (id < 3) × (n ≤ 4096) ⌝ }
-        ensures { λ r. ⌜ r ≡ full self id n ⌝ }
-    {
-        let q = self.q[id];
-        if 8 <= q.count {
-            return true;
-        }
-        4096 < n + q.unsent()
-    }
-
-    // Why a unit of n bytes is refused; 0 where it is not.
-    fn load_number(self, settings: Settings, id: usize, n: usize, room: usize) -> u32
-        ensures { λ r. ⌜ r ≡ refusedWith (loadTests settings self id n room) ⌝ }
-    {
-        let p = settings.p;
-        if settings.check() != 0 {
-            return 13;
-        }
-        if self.is_broken(p as u8) {
-            return 17;
-        }
-        if room != 12288 {
-            return 1;
-        }
-        if 65528 < n {
-            return 1;
-        }
-        if n == 0 {
-            return 14;
-        }
-        if 4096 < n {
-            return 14;
-        }
-        if 2 < id {
-            return 14;
-        }
-        if self.is_full(id, n) {
-            return 15;
-        }
-        0
-    }
-
-    // A unit that was accepted enters its queue, with its bytes behind the unsent ones of that queue.
-    fn place(self, id: usize, unit: &[u8], store: &mut [u8]) -> Front
-        requires { ⌜ Accepted self id (length (now unit)) (length (now store)) ⌝ }
-        ensures { λ r. ⌜ r ≡ loaded self id (length (now (unit .entry))) ⌝ }
-        ensures { λ _. ⌜ now (store .exit) ≡ placedIn self id (now (unit .entry)) (now (store .entry)) ⌝ }
-    {
-        let n = unit.len();
-        let q = self.q[id];
-        let at = id * 4096 + q.unsent();
-        moves::copy(unit, store, at);
-        let mut next = self;
-        let r = q.pushed(n as u16);
-        next.q[id] = r;
-        next
-    }
-
-    // The packets that wait in each queue.
-    fn waiting(self, p: u8) -> Three
-        ensures { λ r. ⌜ r ≡ waitingOf p self ⌝ }
-    {
-        let a = self.q[0];
-        let b = self.q[1];
-        let c = self.q[2];
-        Three {
-            a: a.waiting(p),
-            b: b.waiting(p),
-            c: c.waiting(p),
         }
     }
 
@@ -231,27 +127,8 @@ impl Front {
             index: index,
         }
     }
-
-    // Why a frame is refused; 0 where it is not.
-    fn frame_number(self, settings: Settings, room: usize, size: usize) -> u32
-        ensures { λ r. ⌜ r ≡ refusedWith (frameTests settings self room size) ⌝ }
-    {
-        let p = settings.p;
-        if settings.check() != 0 {
-            return 13;
-        }
-        if self.is_broken(p as u8) {
-            return 17;
-        }
-        if room != 12288 {
-            return 1;
-        }
-        if size < settings.n * (p + 3) {
-            return 1;
-        }
-        0
-    }
 }
+
 // The unsent bytes of queue id, moved to the front of its part of the store.
 fn close(store: &mut [u8], id: usize, o: Out)
     requires { ⌜ (id < 3) × (o .at ≤ 8190) ⌝ }
@@ -293,52 +170,217 @@ fn next_state(e: Ends, turn: usize) -> Front
     }
 }
 
+// A queue has eight places. Neither this nor `shape` does anything: they hand on what is known of arrays.
+fn known(q: Queue)
+    ensures { λ _. ⌜ length (q .left) ≡ 8 ⌝ }
+{}
+
+// The arrays of a state have their lengths.
+fn shape(s: Sender)
+    ensures { λ _. ⌜ Shape s ⌝ }
+{
+    let f = s.front;
+    let a = f.q[0];
+    known(a);
+    let b = f.q[1];
+    known(b);
+    let c = f.q[2];
+    known(c);
+}
+
+// A queue that has `bytes` to send has eight units, or not n bytes of room.
+fn is_full(q: Queue, n: usize, bytes: usize) -> bool
+    requires { ⌜ (n ≤ 4096) × (bytes ≤ 524280) ⌝ }
+    ensures { λ r. ⌜ r ≡ noRoom q n bytes ⌝ }
+{
+    if 8 <= q.count {
+        return true;
+    }
+    4096 < n + bytes
+}
+
+// Stored counts as numbers.
+fn three(w: [u16; 3]) -> Three
+    ensures { λ r. ⌜ (r .a ≡ getD w 0 0) × (r .b ≡ getD w 1 0) × (r .c ≡ getD w 2 0) ⌝ }
+{
+    Three {
+        a: w[0] as usize,
+        b: w[1] as usize,
+        c: w[2] as usize,
+    }
+}
+
+// The counts w after a frame that has `got` of each queue.
+fn less(w: Three, got: Three) -> [u16; 3]
+    requires { ⌜ (w .a ≤ 4096) × (w .b ≤ 4096) × (w .c ≤ 4096) × (got .a ≤ w .a) × (got .b ≤ w .b) × (got .c ≤ w .c) ⌝ }
+    ensures { λ r. ⌜ r ≡ less w got ⌝ }
+{
+    let r = [
+        (w.a - got.a) as u16,
+        (w.b - got.b) as u16,
+        (w.c - got.c) as u16,
+    ];
+    r
+}
+
 impl Sender {
-    // No unit, turn 0, indexes 0.
+    // No unit, nothing waits, turn 0, indexes 0.
     pub fn fresh() -> Sender
-        ensures { λ r. ⌜ r ≡ outer fresh ⌝ }
+        ensures { λ r. ⌜ r ≡ freshKept ⌝ }
     {
         let front = Front::fresh();
-        Sender { front: front }
+        let waiting = [0u16; 3];
+        Sender {
+            front: front,
+            waiting: waiting,
+        }
+    }
+
+    // One of the faults of refusal 17, a wrong count among them. Each queue's units are gone through once.
+    fn is_faulty(self, p: u8) -> bool
+        ensures { λ r. ⌜ r ≡ faulty p self ⌝ }
+    {
+        let w = self.waiting;
+        let f = self.front;
+        let mut id: usize = 0;
+        while id < 3 {
+            let q = f.q[id];
+            if q.is_wrong(p, w[id]) {
+                return true;
+            }
+            id += 1;
+        }
+        if 2 < f.turn {
+            return true;
+        }
+        let index = f.index;
+        if 7 < index[0] {
+            return true;
+        }
+        if 7 < index[1] {
+            return true;
+        }
+        if 7 < index[2] {
+            return true;
+        }
+        7 < index[3]
+    }
+
+    // Why a unit of n bytes is refused before the room of its queue is looked at; 0 where it is not.
+    fn load_number(self, settings: Settings, id: usize, n: usize, room: usize) -> u32
+        ensures { λ r. ⌜ r ≡ refusedWith (unitTests settings self id n room) ⌝ }
+    {
+        let p = settings.p;
+        if settings.check() != 0 {
+            return 13;
+        }
+        if self.is_faulty(p as u8) {
+            return 17;
+        }
+        if room != 12288 {
+            return 1;
+        }
+        if 65528 < n {
+            return 1;
+        }
+        if n == 0 {
+            return 14;
+        }
+        if 4096 < n {
+            return 14;
+        }
+        if 2 < id {
+            return 14;
+        }
+        0
+    }
+
+    // The counts with a unit of n bytes more in queue id, where it was accepted.
+    fn more(self, p: u8, id: usize, n: usize) -> [u16; 3]
+        requires { ⌜ Entering p self id n 12288 ⌝ }
+        ensures { λ r. ⌜ r ≡ countsOf p (loaded (self .front) id n) ⌝ }
+    {
+        shape(self);
+        let mut w = self.waiting;
+        w[id] += queue::packets(p, n as u16);
+        w
     }
 
     // A unit enters queue id, or is refused and nothing changes. Refused with 13: settings. With 17: the state. With 1: a store of
     // another length than 12,288, a unit over 65,528 bytes. With 14: a unit that is empty or over 4,096, an id over 2. With 15: no room.
     pub fn load(self, settings: Settings, store: &mut [u8], id: usize, unit: &[u8]) -> Loaded
-        ensures answer { λ r. ⌜ r ≡ outerLoaded (loadFor settings (self .front) id (now (unit .entry)) (now (store .entry))) ⌝ }
-        ensures memory { λ _. ⌜ now (store .exit) ≡ storeFor settings (self .front) id (now (unit .entry)) (now (store .entry)) ⌝ }
+        ensures answer { λ r. ⌜ r ≡ keptLoadFor settings self id (now (unit .entry)) (now (store .entry)) ⌝ }
+        ensures memory { λ _. ⌜ now (store .exit) ≡ keptStoreFor settings self id (now (unit .entry)) (now (store .entry)) ⌝ }
     {
-        let front = self.front;
-        let number = front.load_number(settings, id, unit.len(), store.len());
+        let n = unit.len();
+        let number = self.load_number(settings, id, n, store.len());
         if number != 0 {
             return Loaded {
                 number: number,
                 next: self,
             };
         }
-        let placed = front.place(id, unit, store);
-        let next = Sender { front: placed };
+        let mut front = self.front;
+        let q = front.q[id];
+        let bytes = q.unsent();
+        if is_full(q, n, bytes) {
+            return Loaded {
+                number: 15,
+                next: self,
+            };
+        }
+        moves::copy(unit, store, id * 4096 + bytes);
+        let r = q.pushed(n as u16);
+        front.q[id] = r;
+        let next = Sender {
+            front: front,
+            waiting: self.more(settings.p as u8, id, n),
+        };
         Loaded {
             number: 0,
             next: next,
         }
     }
 
-    // A frame, where the checks have passed.
+    // Why a frame is refused; 0 where it is not.
+    fn frame_number(self, settings: Settings, room: usize, size: usize) -> u32
+        ensures { λ r. ⌜ r ≡ refusedWith (keptFrameTests settings self room size) ⌝ }
+    {
+        let p = settings.p;
+        if settings.check() != 0 {
+            return 13;
+        }
+        if self.is_faulty(p as u8) {
+            return 17;
+        }
+        if room != 12288 {
+            return 1;
+        }
+        if size < settings.n * (p + 3) {
+            return 1;
+        }
+        0
+    }
+
+    // A frame, where the checks have passed. It is handed out by the stored counts.
     fn run(self, settings: Settings, store: &mut [u8], out: &mut [u8]) -> Framed
-        requires { ⌜ Fit settings (self .front) (length (now store)) (length (now out)) ⌝ }
-        ensures { λ r. ⌜ r ≡ outerFramed (framed settings (self .front)) ⌝ }
+        requires { ⌜ Going settings self (length (now store)) (length (now out)) ⌝ }
+        ensures { λ r. ⌜ r ≡ keptFramed settings self ⌝ }
         ensures { λ _. ⌜ now (store .exit) ≡ closedAll (settings .p) (self .front) (handOf settings (self .front) .packets) (now (store .entry)) ⌝ }
         ensures { λ _. ⌜ now (out .exit) ≡ written (now (out .entry)) 0 (frameBytes settings (self .front) (now (store .entry))) ⌝ }
     {
         let p = settings.p as u8;
         let front = self.front;
-        let h = settings.hand_out(front.waiting(p), front.turn);
+        shape(self);
+        let stored = self.waiting;
+        let w = three(stored);
+        let h = settings.hand_out(w, front.turn);
         let got = h.packets;
         let e = front.write_rows(p, got, h.filler, store, out);
         close_all(store, e);
         let next = Sender {
             front: next_state(e, h.turn),
+            waiting: less(w, got),
         };
         Framed {
             number: 0,
@@ -352,12 +394,11 @@ impl Sender {
     // Writes a frame to the front of the output, or is refused and nothing changes. Refused with 13: settings. With 17: the state. With
     // 1: a store of another length than 12,288. Last with 1: an output under N (p + 3) bytes.
     pub fn frame(self, settings: Settings, store: &mut [u8], out: &mut [u8]) -> Framed
-        ensures answer { λ r. ⌜ r ≡ outerFramed (frameFor settings (self .front) (now (store .entry)) (now (out .entry))) ⌝ }
-        ensures memory { λ _. ⌜ now (store .exit) ≡ storeAfter settings (self .front) (now (store .entry)) (now (out .entry)) ⌝ }
-        ensures output { λ _. ⌜ now (out .exit) ≡ frameOut settings (self .front) (now (store .entry)) (now (out .entry)) ⌝ }
+        ensures answer { λ r. ⌜ r ≡ keptFrameFor settings self (now (store .entry)) (now (out .entry)) ⌝ }
+        ensures memory { λ _. ⌜ now (store .exit) ≡ keptStoreAfter settings self (now (store .entry)) (now (out .entry)) ⌝ }
+        ensures output { λ _. ⌜ now (out .exit) ≡ keptFrameOut settings self (now (store .entry)) (now (out .entry)) ⌝ }
     {
-        let front = self.front;
-        let number = front.frame_number(settings, store.len(), out.len());
+        let number = self.frame_number(settings, store.len(), out.len());
         if number != 0 {
             let none = Three { a: 0, b: 0, c: 0 };
             return Framed {

@@ -13,14 +13,14 @@ fn half(body: &[u8], at: usize, more: usize) -> u16 {
 }
 
 fn queue_at(body: &[u8], at: usize) -> Queue {
-    let l0 = half(body, at, 16);
-    let l1 = half(body, at, 18);
-    let l2 = half(body, at, 20);
-    let l3 = half(body, at, 22);
-    let l4 = half(body, at, 24);
-    let l5 = half(body, at, 26);
-    let l6 = half(body, at, 28);
-    let l7 = half(body, at, 30);
+    let l0 = half(body, at, 18);
+    let l1 = half(body, at, 20);
+    let l2 = half(body, at, 22);
+    let l3 = half(body, at, 24);
+    let l4 = half(body, at, 26);
+    let l5 = half(body, at, 28);
+    let l6 = half(body, at, 30);
+    let l7 = half(body, at, 32);
     let left = [l0, l1, l2, l3, l4, l5, l6, l7];
     Queue {
         left,
@@ -40,16 +40,20 @@ fn index_at(body: &[u8], at: usize) -> [u8; 4] {
 // The sender at the front of a body.
 fn sender_in(body: &[u8]) -> Sender {
     let a = queue_at(body, 0);
-    let b = queue_at(body, 32);
-    let c = queue_at(body, 64);
+    let b = queue_at(body, 34);
+    let c = queue_at(body, 68);
     let q = [a, b, c];
-    let index = index_at(body, 104);
+    let index = index_at(body, 110);
     let front = Front {
         q,
-        turn: fields::read64(body, 96) as usize,
+        turn: fields::read64(body, 102) as usize,
         index,
     };
-    Sender { front }
+    let wa = half(body, 0, 16);
+    let wb = half(body, 34, 16);
+    let wc = half(body, 68, 16);
+    let waiting = [wa, wb, wc];
+    Sender { front, waiting }
 }
 
 fn four(said: Said, a: u16, b: u16, c: u16, d: u16) -> Said {
@@ -62,17 +66,19 @@ fn tell_left(said: Said, l: [u16; 8]) -> Said {
     four(said, l[4], l[5], l[6], l[7])
 }
 
-fn tell_queue(said: Said, q: Queue) -> Said {
+// A queue, with the count that is stored for it.
+fn tell_queue(said: Said, q: Queue, waiting: u16) -> Said {
     let left = q.left;
-    let said = saying::value(said, q.count as u64);
-    tell_left(saying::value(said, q.sent as u64), left)
+    let said = saying::three(said, q.count as u64, q.sent as u64, waiting as u64);
+    tell_left(said, left)
 }
 
-fn tell_queues(said: Said, q: [Queue; 3]) -> Said {
+fn tell_queues(said: Said, q: [Queue; 3], w: [u16; 3]) -> Said {
     let a = q[0];
     let b = q[1];
     let c = q[2];
-    tell_queue(tell_queue(tell_queue(said, a), b), c)
+    let said = tell_queue(said, a, w[0]);
+    tell_queue(tell_queue(said, b, w[1]), c, w[2])
 }
 
 fn wide(x: u8) -> u16 {
@@ -87,7 +93,8 @@ fn tell_sender(said: Said, s: Sender) -> Said {
     let f = s.front;
     let q = f.q;
     let index = f.index;
-    let said = tell_queues(said, q);
+    let waiting = s.waiting;
+    let said = tell_queues(said, q, waiting);
     tell_index(saying::value(said, f.turn as u64), index)
 }
 

@@ -1,6 +1,10 @@
 //! Call 35: a sender that is handed units and asked for frames, step by step (document 01, "Packets, queues
-//! and receiver").
+//! and receiver"; document 02, E1).
 
+mod counts;
+mod senders;
+
+use self::senders::{any, state, BROKEN};
 use super::settings::{self, Set};
 use super::Call;
 use crate::answer::Answer;
@@ -14,9 +18,9 @@ use crate::random::Random;
 use crate::reader::Reader;
 use crate::refusal::{Refusal, LONGEST_INPUT};
 use crate::runs::Sending;
-use crate::sender::{HandOut, Queue, Sender, Settings, QUEUES, QUEUE_BYTES, STORE_BYTES, UNITS};
+use crate::sender::{HandOut, Sender, Settings, QUEUE_BYTES, STORE_BYTES};
 
-/// Its values have no names: each step has eight, and the sender 35.
+/// Its values have no names: each step has eight, and the sender 38.
 pub const SCRIPT: Call = Call {
     code: 35,
     name: "sender script",
@@ -106,7 +110,7 @@ fn answer(body: &mut Reader) -> Option<Answer> {
 fn values_of(sender: &Sender) -> Vec<u64> {
     let mut values = Vec::new();
     for queue in &sender.queues {
-        values.extend([queue.units, queue.sent]);
+        values.extend([queue.units, queue.sent, u64::from(queue.waiting)]);
         values.extend(queue.left.map(u64::from));
     }
     values.push(sender.turn);
@@ -145,6 +149,7 @@ impl Script {
         &mut self.steps[last]
     }
 
+    /// That of the first step; every p is 1 to 255 until settings are spoiled.
     fn p(&self) -> u64 {
         self.steps.first().map_or(1, |step| step.settings.p)
     }
@@ -184,119 +189,13 @@ fn load(random: &mut Random, settings: Settings, id: u64, length: usize) -> Step
     }
 }
 
-/// A state that is allowed with that p, reached by any sender or by none.
-fn state(random: &mut Random, p: u64) -> Sender {
-    let mut sender = Sender {
-        turn: random.below(3),
-        ..Sender::default()
-    };
-    for index in &mut sender.indexes {
-        *index = random.below(8) as u8;
-    }
-    for queue in &mut sender.queues {
-        *queue = waiting(random, p);
-    }
-    sender
-}
-
-fn waiting(random: &mut Random, p: u64) -> Queue {
-    let mut queue = Queue {
-        units: random.below(1 + UNITS as u64),
-        ..Queue::default()
-    };
-    let longest = random.pick(&[6, 6, 40, 40, QUEUE_BYTES / UNITS]) as u64;
-    for (place, left) in queue.left.iter_mut().enumerate() {
-        let there = (place as u64) < queue.units;
-        let garbage = random.pick(&[0, 0, 1, 5, 4_097, 65_535]);
-        *left = match there {
-            true => 1 + random.below(longest) as u16,
-            false => garbage,
-        };
-    }
-    if queue.units > 0 {
-        if random.one_in(4) {
-            let room = QUEUE_BYTES - queue.unsent();
-            queue.left[0] += random.pick(&[room, room / 2]) as u16;
-        }
-        let most = (QUEUE_BYTES as u64 - u64::from(queue.left[0])) / p;
-        queue.sent = p * random.pick(&[0, 0, most.min(1), most.min(3), most]);
-    }
-    queue
-}
-
-/// What can be wrong in the state handed in whatever p is: every kind of 17 but one.
-const BROKEN: [Fault<Sender>; 13] = [
-    |sender, random| sender.turn = random.pick(&[3, 4, 256, 1 << 32, u64::MAX]),
-    |sender, random| sender.indexes[random.below(3) as usize] = random.pick(&[8, 9, 16, 255]),
-    |sender, _| sender.indexes[3] = 8,
-    |sender, random| any(sender, random).units = random.pick(&[9, 10, 264, (1 << 32) + 1]),
-    |sender, random| any(sender, random).units = u64::MAX,
-    |sender, random| one_left(any(sender, random), 0, 0),
-    |sender, random| {
-        let place = random.below(UNITS as u64) as usize;
-        one_left(any(sender, random), place, 0);
-    },
-    |sender, random| {
-        let place = random.below(UNITS as u64) as usize;
-        let length = random.pick(&[4_097, 5_000, 65_535]);
-        one_left(any(sender, random), place, length);
-    },
-    |sender, random| *any(sender, random) = overfull(),
-    |sender, random| *any(sender, random) = two_overfull(),
-    |sender, random| sent_too_long(any(sender, random)),
-    |sender, random| any(sender, random).sent = random.pick(&[1 << 16, 1 << 32, u64::MAX]),
-    |sender, random| {
-        let queue = any(sender, random);
-        (queue.units, queue.sent) = (0, random.pick(&[1, 840, 4_096, 1 << 40]));
-    },
-];
-
-fn any<'a>(sender: &'a mut Sender, random: &mut Random) -> &'a mut Queue {
-    &mut sender.queues[random.below(QUEUES as u64) as usize]
-}
-
-/// A queue with so many bytes left of one of its units.
-fn one_left(queue: &mut Queue, place: usize, left: u16) {
-    queue.units = queue.units.max(place as u64 + 1);
-    for left in &mut queue.left[..=place] {
-        *left = (*left).clamp(1, 9);
-    }
-    queue.left[place] = left;
-}
-
-/// Eight units, one byte too many.
-fn overfull() -> Queue {
-    Queue {
-        units: 8,
-        sent: 0,
-        left: [512, 512, 512, 512, 512, 512, 512, 513],
-    }
-}
-
-/// Two units, one byte too many.
-fn two_overfull() -> Queue {
-    Queue {
-        units: 2,
-        sent: 0,
-        left: [1, 4_096, 0, 0, 0, 0, 0, 0],
-    }
-}
-
-/// A first unit of 4,096 bytes and its share of a packet more, whatever p is: 840 is a multiple of 1 to 8.
-fn sent_too_long(queue: &mut Queue) {
-    one_left(queue, 0, 4_096 - 839);
-    queue.sent = 840;
-}
-
 /// What can be wrong with a script; the number of each stands behind it.
 const FAULTS: &[Fault<Script>] = &[
     |script, random| script.output = shorter(random, script), // late 1
     |script, random| {
-        full(
-            &mut script.sender,
-            random,
-            script.steps[script.steps.len() - 1].id,
-        )
+        let (id, p) = (script.last().id, script.p());
+        senders::full(&mut script.sender, random, id);
+        senders::count(&mut script.sender, p);
     }, // 15
     |script, random| script.last().id = random.pick(&[3, 4, 256, 1 << 32, u64::MAX]), // 14
     |script, _| script.last().unit = Buffer::default(),       // 14
@@ -305,62 +204,51 @@ const FAULTS: &[Fault<Script>] = &[
         script.last().unit = store(random, length);
     }, // 14
     |script, random| script.last().unit = store(random, LONGEST_INPUT + 1), // 1
-    |script, random| {
-        let length = random.pick(&[0, 4_096, 12_287, 12_289, 16_384]);
-        script.store = store(random, length);
-    }, // 1
+    other_store,                                              // 1
     |script, random| spoil(script, random, 0..3),             // 17
     |script, random| spoil(script, random, 3..8),             // 17
     |script, random| spoil(script, random, 8..13),            // 17
     no_multiple,                                              // 17
     |script, random| {
-        let wrong = settings::faults::<Script>();
-        wrong[random.below(wrong.len() as u64) as usize](script, random);
-    }, // 13
+        let p = script.p();
+        senders::miscount(&mut script.sender, random, p);
+    }, // 17
+    other_settings,                                           // 13
 ];
 
-/// Sent bytes that are no multiple of p; where p is 1, too many of them.
+fn other_store(script: &mut Script, random: &mut Random) {
+    let length = random.pick(&[0, 4_096, 12_287, 12_289, 16_384]);
+    script.store = store(random, length);
+}
+
+fn other_settings(script: &mut Script, random: &mut Random) {
+    let wrong = settings::faults::<Script>();
+    wrong[random.below(wrong.len() as u64) as usize](script, random);
+}
+
+/// Sent bytes that are no multiple of p; where p is 1, too many of them. The counts are right.
 fn no_multiple(script: &mut Script, random: &mut Random) {
     let p = script.p();
     let queue = any(&mut script.sender, random);
-    one_left(queue, 0, 3);
+    senders::one_left(queue, 0, 3);
     queue.sent = match p {
         2..=1_000 => p * random.below(3) + 1 + random.below(p - 1),
         _ => QUEUE_BYTES as u64,
     };
+    senders::count(&mut script.sender, p);
 }
 
+/// One of those kinds of 17, with counts that are right: it alone decides.
 fn spoil(script: &mut Script, random: &mut Random, kinds: std::ops::Range<usize>) {
     let kinds = &BROKEN[kinds];
     kinds[random.below(kinds.len() as u64) as usize](&mut script.sender, random);
+    senders::count(&mut script.sender, script.steps[0].settings.p);
 }
 
 /// An output that is too short for the longest frame, mostly by one.
 fn shorter(random: &mut Random, script: &Script) -> Buffer {
     let needed = script.steps.iter().map(Step::needed).max().unwrap_or(0);
     generate::too_short(random, needed)
-}
-
-/// A queue without room, for lack of bytes or of units.
-fn full(sender: &mut Sender, random: &mut Random, id: u64) {
-    let queue = &mut sender.queues[(id % QUEUES as u64) as usize];
-    *queue = match random.below(3) {
-        0 => Queue {
-            units: 8,
-            sent: 0,
-            left: [1; 8],
-        },
-        1 => Queue {
-            units: 1,
-            sent: 0,
-            left: [4_096, 7, 7, 7, 7, 7, 7, 7],
-        },
-        _ => Queue {
-            units: 8,
-            sent: 0,
-            left: [512; 8],
-        },
-    };
 }
 
 /// The limits of a queue and of a unit, met step by step.
@@ -418,16 +306,22 @@ fn changing(random: &mut Random) -> Script {
     let (first, second) = (settings::good(random), settings::good(random));
     let drawn = 1 + random.below(12);
     let other = random.pick(&[first.p, first.p, drawn, 2 * first.p.min(20)]);
-    let mut second = Settings { p: other, ..second };
-    if second.check().is_err() {
-        second = settings::of(other, 2, [1, 0, 0], [2, 1, 2]);
-    }
+    let second = with_p(second, other);
     let mut steps = Vec::new();
     for _ in 0..3 + random.below(9) {
         let now = random.pick(&[first, first, second]);
         steps.push(random_step(random, now));
     }
     Script::new(random, steps)
+}
+
+/// These settings, or where they are too long with that p, others.
+fn with_p(settings: Settings, p: u64) -> Settings {
+    let changed = Settings { p, ..settings };
+    match changed.check() {
+        Ok(()) => changed,
+        Err(_) => settings::of(p, 2, [1, 0, 0], [2, 1, 2]),
+    }
 }
 
 fn random_step(random: &mut Random, settings: Settings) -> Step {
@@ -531,6 +425,9 @@ fn fixed(random: &mut Random) -> Vec<Vec<u8>> {
             }
         }
     }
+    // Changes of all but p, wrong counts, and changes of p.
+    list.extend((0..6).map(|_| busy(random)));
+    list.extend(counts::fixed(random));
     // The order of the refusals.
     for end in ends {
         let good = Script::new(random, vec![end]);
@@ -554,16 +451,20 @@ fn fixed(random: &mut Random) -> Vec<Vec<u8>> {
 }
 
 fn random_script(random: &mut Random) -> Vec<u8> {
-    let mut script = match random.below(8) {
+    let mut script = match random.below(10) {
         0 => changing(random),
-        1..=3 => busy(random),
+        1 => return counts::random_change(random).body(),
+        2..=5 => busy(random),
         _ => steady(random),
     };
     if random.one_in(3) {
-        script.sender = state(random, script.p());
+        // Now and then for the p of the last step, which may be another.
+        let p = random.pick(&[script.p(), script.p(), script.p(), script.last().settings.p]);
+        script.sender = state(random, p);
     }
-    match random.below(3) {
-        0 => faults::some(script, FAULTS, random).body(),
+    match random.below(12) {
+        0 | 1 => counts::miscounted(random, script).body(),
+        2..=5 => faults::some(script, FAULTS, random).body(),
         _ => script.body(),
     }
 }
@@ -598,7 +499,7 @@ mod tests {
         }
     }
 
-    /// Two loads, one of them refused, and a frame: eight values each, then the sender's 35.
+    /// Two loads, one of them refused, and a frame: eight values each, then the sender's 38.
     #[test]
     fn values_of_a_script() {
         let mut random = Random::new(2);
@@ -619,7 +520,7 @@ mod tests {
         ];
         let sum = frame.iter().map(|byte| u64::from(*byte)).sum();
         expected.extend([0, 0, 2, 0, 2, 1, u64::from(crc16(&frame)), sum]);
-        expected.extend([0; 30]);
+        expected.extend([0; 33]);
         expected.extend([2, 0, 2, 0, 1]);
         assert_eq!(answer.values, expected);
     }
@@ -628,6 +529,6 @@ mod tests {
     fn no_step_at_all() {
         let script = Script::new(&mut Random::new(3), vec![]);
         let answer = answered(&script);
-        assert_eq!((answer.number, answer.values), (0, vec![0; 35]));
+        assert_eq!((answer.number, answer.values), (0, vec![0; 38]));
     }
 }

@@ -1,23 +1,21 @@
 -- `queue::packets` meets its contract. Assumes nothing.
+use mathlib.Core.Path.{ap, _∙_}
 use borrow.Author.Needs.{needs}
-use Rattle.queue.proofs.Sums.{packets-none, packets-is, packets-le}
+use Rattle.queue.specs.Queue.{packets}
 use Rattle.queue.proofs.packets.Statement.{statement}
 use Rattle.queue.proofs.packets.Tie as tie
 
+wide-requires : tie.Need-wide-requires
+wide-requires c κs = search needs
+
+packets-of-requires : tie.Need-packets-of-requires
+packets-of-requires c κs = search needs
+
+cast-result : tie.Need-cast-result
+cast-result c = search needs
+
 returns : tie.Need-returns
-returns c = search (packets-none, needs)
-
-sub-result : tie.Need-sub-result
-sub-result c = search needs
-
-add-result : tie.Need-add-result
-add-result c = search needs
-
-div-result : tie.Need-div-result
-div-result c = search needs
-
-returns-2 : tie.Need-returns-2
-returns-2 c = search (packets-is, packets-le, needs)
+returns c = c .packets-of .ensures .0 ∙ ap (packets _) (c .before .wide .ensures .0)
 
 pub packets-spec : {M : Type 1} → statement M
-packets-spec = tie.close (tie.spec returns sub-result add-result div-result returns-2)
+packets-spec = tie.close (tie.spec wide-requires packets-of-requires cast-result returns)

@@ -1,8 +1,6 @@
 -- `sender::Sender::frame` meets its contract. Assumes nothing.
-use mathlib.Core.Path.{refl, ap, _∙_}
 use borrow.Author.Needs.{needs}
-use Rattle.sender.specs.Outer.{outerFramed}
-use Rattle.sender.proofs.Framing.{frame-refused, frame-fit, frame-done}
+use Rattle.sender.proofs.KeptFraming.{frame-refused, frame-going, frame-done}
 use Rattle.sender.proofs.Sender.frame.Statement.{statement}
 use Rattle.sender.proofs.Sender.frame.Tie as tie
 
@@ -10,17 +8,15 @@ frame-number-requires : tie.Need-frame-number-requires
 frame-number-requires c κs = search needs
 
 returns : tie.Need-returns
-unfolding outerFramed
 returns c =
-    let g = c .before .before .before .before .before in
-    let k = frame-refused _ _ (g .args .store .now) (g .args .out .now) _ (c .before .frame-number .ensures) (c .if1 .taken) in
-    (ap outerFramed (k .0), k .1)
+    let g = c .before .before .before .before in
+    frame-refused _ _ (g .args .store .now) (g .args .out .now) _ (c .before .frame-number .ensures) (c .if1 .taken)
 
 run-requires : tie.Need-run-requires
 run-requires c κs =
     let n = c .before .before .before in
-    let g = n .before .before .before .before in
-    frame-fit _ _ (g .args .store .now) (g .args .out .now) _ (n .frame-number .ensures) (c .before .before .if1 .left)
+    let g = n .before .before .before in
+    frame-going _ _ (g .args .store .now) (g .args .out .now) _ (n .frame-number .ensures) (c .before .before .if1 .left)
 
 same-length : tie.Need-same-length
 same-length c = search needs
@@ -32,9 +28,8 @@ returns-2 : tie.Need-returns-2
 returns-2 c =
     let r = c .before .before .before .before in
     let n = r .before .before .before .before in
-    let g = n .before .before .before .before in
-    let k = frame-done _ _ (g .args .store .now) (g .args .out .now) _ (n .frame-number .ensures) (r .before .before .before .if1 .left) _ _ _ refl (r .run .ensures .1 .0) (r .run .ensures .1 .1) in
-    (r .run .ensures .0 ∙ ap outerFramed (k .0), k .1)
+    let g = n .before .before .before in
+    frame-done _ _ (g .args .store .now) (g .args .out .now) _ (n .frame-number .ensures) (r .before .before .before .if1 .left) _ _ _ (r .run .ensures .0) (r .run .ensures .1 .0) (r .run .ensures .1 .1)
 
 pub frame-spec : {M : Type 1} → statement M
 frame-spec =
