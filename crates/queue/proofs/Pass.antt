@@ -36,12 +36,12 @@ pub record Counted (p : ℕ) (l : List ℕ) (n i bytes sum : ℕ) : Type 0 where
 pub counted-none : (p : ℕ) (l : List ℕ) (n : ℕ) → n ≤ 8 → Counted p l n 0 0 0
 counted-none p l n h = record { pass = pass-none l n h; sum-is = summed-none (packets p) l n 65535 h }
 
-pub counted-more : (p : ℕ) (l : List ℕ) (n i bytes sum x y : ℕ) → length l ≡ 8 → i < n → x ≡ getD l i 0 → x ≤ 65535 → (x ≡ 0 → ⊥) → y ≡ packets p x → y ≤ 65535
+pub counted-more : (p : ℕ) (l : List ℕ) (n i bytes sum x y : ℕ) → length l ≡ 8 → i < n → x ≡ getD l i 0 → x ≤ 65535 → (x ≡ 0 → ⊥) → y ≡ packets p x → y ≤ x
     → Counted p l n i bytes sum → Counted p l n (i + 1) (bytes + x) (sum + y)
 counted-more p l n i bytes sum x y l8 h ex hx hz ey hy k =
     record {
       pass = pass-more l n i bytes x l8 h ex hx hz (k .pass);
-      sum-is = summed-more (packets p) l n 65535 i sum x y l8 h ex ey hy (k .sum-is);
+      sum-is = summed-more (packets p) l n 65535 i sum x y l8 h ex ey (omega arith) (k .sum-is);
     }
 
 -- ---- what is answered within it, and what it found

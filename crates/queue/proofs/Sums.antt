@@ -84,8 +84,8 @@ over-bytes w x h = go ((x + (w - 1)) / w) refl
         let m : suc k * w ≡ k * w + w = omega arith in
         omega (arith, mul-le-mul-right k h)
 
-pub packets-fit : (w y : ℕ) → (w ≡ 0 → ⊥) → y ≤ 65535 → (y + (w - 1)) / w ≤ 65535
-packets-fit w y h k = omega (arith, over-bytes w y (omega arith))
+pub packets-fit : (w x : ℕ) → (w ≡ 0 → ⊥) → (x + (w - 1)) / w ≤ x
+packets-fit w x h = over-bytes w x (omega arith)
 
 -- ---- a unit with no byte left
 empty-append : (a b : List ℕ) → anyEmpty (a ++ b) ≡ anyEmpty a || anyEmpty b

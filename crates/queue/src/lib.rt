@@ -22,7 +22,7 @@ fn wide(x: u16) -> usize
 
 fn packets_of(p: u8, x: usize) -> usize
     requires { ⌜ x ≤ 65535 ⌝ }
-    ensures { λ r. ⌜ (r ≡ packets p x) × (r ≤ 65535) ⌝ }
+    ensures { λ r. ⌜ (r ≡ packets p x) × (r ≤ x) ⌝ }
 {
     if p == 0 {
         return 0;
@@ -33,7 +33,7 @@ fn packets_of(p: u8, x: usize) -> usize
 
 // The packets of p data bytes that x bytes take.
 pub fn packets(p: u8, x: u16) -> u16
-    ensures { λ r. ⌜ r ≡ packets p x ⌝ }
+    ensures { λ r. ⌜ (r ≡ packets p x) × (r ≤ x) ⌝ }
 {
     packets_of(p, wide(x)) as u16
 }

@@ -32,7 +32,7 @@ sent-waiting p (suc n) o hp w =
     omega (arith, e, waits-send p hp 1 (units (steps p n o .q)) (s .pos), sent-waiting p n o hp w)
 
 -- ---- no more packets than bytes
-pub packets-bytes : (p x : ℕ) → 1 ≤ p → packets p x ≤ x
+packets-bytes : (p x : ℕ) → 1 ≤ p → packets p x ≤ x
 unfolding packets
 packets-bytes p x h = over-bytes p x h
 

@@ -23,7 +23,7 @@ use Rattle.sender.specs.Private.{Shape, unitTests, noRoom, Entering}
 use Rattle.sender.specs.declared.Front.{Front}
 use Rattle.sender.specs.declared.Sender.{Sender}
 use Rattle.sender.specs.declared.Loaded.{Loaded}
-use Rattle.sender.proofs.Counts.{packets-bytes, pushed-waiting, waiting-unsent}
+use Rattle.sender.proofs.Counts.{pushed-waiting, waiting-unsent}
 use Rattle.sender.proofs.KeptChecks.{load-late, Offered, offered-of, entering-of}
 use Rattle.sender.proofs.Loading.{place-is}
 
@@ -122,11 +122,9 @@ module _ (p : ℕ) (s : Sender) (id n room : ℕ) (a : Entering p s id n room) (
       (ap₂ (λ (x : ℕ) (l : List ℕ). x ∷ l) (count-after 0 (lit< tt) (eqb 0 id) refl)
       (ap₂ (λ (x : ℕ) (l : List ℕ). x ∷ l) (count-after 1 (lit< tt) (eqb 1 id) refl) (ap (λ (x : ℕ). x ∷ []) (count-after 2 (lit< tt) (eqb 2 id) refl))))
 
-  -- nothing wraps: the new count is the sum over the units with this one
-  pub more-fits : (k : ℕ) → k ≡ packets p n → getD (s .waiting) id 0 + k ≤ 4096
-  more-fits k ek =
-      let u = a .unit .fits in
-      omega (arith, stored-is id hid, waiting-unsent p (queueOf (s .front) id) (a .low), packets-bytes p n (a .low))
+  -- nothing wraps: a unit takes no more packets than bytes
+  pub more-fits : (k : ℕ) → k ≤ n → getD (s .waiting) id 0 + k ≤ 4096
+  more-fits k hk = let u = a .unit .fits in omega (arith, stored-is id hid, waiting-unsent p (queueOf (s .front) id) (a .low))
 
 -- ---- the call
 module _ (g : Settings) (s : Sender) (id : ℕ) (unit store : List ℕ) where

@@ -203,11 +203,10 @@ fn is_full(q: Queue, n: usize, bytes: usize) -> bool
 fn three(w: [u16; 3]) -> Three
     ensures { λ r. ⌜ (r .a ≡ getD w 0 0) × (r .b ≡ getD w 1 0) × (r .c ≡ getD w 2 0) ⌝ }
 {
-    Three {
-        a: w[0] as usize,
-        b: w[1] as usize,
-        c: w[2] as usize,
-    }
+    let a = w[0] as usize;
+    let b = w[1] as usize;
+    let c = w[2] as usize;
+    Three { a: a, b: b, c: c }
 }
 
 // The counts w after a frame that has `got` of each queue.
@@ -215,11 +214,10 @@ fn less(w: Three, got: Three) -> [u16; 3]
     requires { ⌜ (w .a ≤ 4096) × (w .b ≤ 4096) × (w .c ≤ 4096) × (got .a ≤ w .a) × (got .b ≤ w .b) × (got .c ≤ w .c) ⌝ }
     ensures { λ r. ⌜ r ≡ less w got ⌝ }
 {
-    let r = [
-        (w.a - got.a) as u16,
-        (w.b - got.b) as u16,
-        (w.c - got.c) as u16,
-    ];
+    let a = (w.a - got.a) as u16;
+    let b = (w.b - got.b) as u16;
+    let c = (w.c - got.c) as u16;
+    let r = [a, b, c];
     r
 }
 
@@ -332,13 +330,13 @@ impl Sender {
         moves::copy(unit, store, id * 4096 + bytes);
         let r = q.pushed(n as u16);
         front.q[id] = r;
-        let next = Sender {
+        let entered = Sender {
             front: front,
             waiting: self.more(settings.p as u8, id, n),
         };
         Loaded {
             number: 0,
-            next: next,
+            next: entered,
         }
     }
 

@@ -23,7 +23,7 @@ array-read-w c = search needs
 add-w : tie.Need-add-w
 add-w c =
     let g = c .before .before .before in
-    omega (arith, more-fits _ _ _ _ _ (g .pre) (c .before .before .shape .ensures) _ (c .packets .ensures))
+    omega (arith, more-fits _ _ _ _ _ (g .pre) (c .before .before .shape .ensures) _ (c .packets .ensures .1))
 
 array-write-w : tie.Need-array-write-w
 array-write-w c = search needs
