@@ -1,12 +1,11 @@
 -- No function that meets the promise of the frame invents its counts (01, "Acceptance of the promises"): whatever it is handed, the reported
 -- packets and the reported filler are those of the frame that it wrote. Assumes nothing.
 use Prim.Native.Nat.{ℕ, zero, suc, _+_, _<_, _≤_}
-use mathlib.Core.Path.{_≡_, refl, sym, ap, _∙_}
-use mathlib.Core.Bool.{Bool, true, false}
+use mathlib.Core.Path.{_≡_, sym, ap, _∙_}
+use mathlib.Core.Bool.{Bool}
 use mathlib.Core.List.{List}
 use native.Mathlib.Omega.{arith}
-use borrow.Author.Tests.{eq-eqb, eqb-true}
-use lib.Dec.{eqb}
+use borrow.Author.Tests.{eq-eqb}
 use lib.ListN.{drop, length}
 use Rattle.laws.specs.Pick.{pick}
 use Rattle.laws.specs.Written.{written}
@@ -23,21 +22,13 @@ use Rattle.sender.specs.declared.Sender.{Sender}
 use Rattle.sender.specs.declared.Framed.{Framed}
 use Rattle.sender.proofs.Faults.{Fine, fine-of}
 use Rattle.sender.proofs.KeptChecks.{going-of}
+use Rattle.sender.proofs.KeptFraming.{frame-says}
 use Rattle.demand.specs.Run.{Desk}
 use Rattle.demand.proofs.Good.{Good}
 use Rattle.demand.proofs.Rows.{counted, counted-filler}
 use Rattle.acceptance.specs.Wrong.{Framer, Frames, Shaped, heldBy, Counts, Invents}
 
 module _ (g : Settings) (s : Sender) (store out : List ℕ) where
-  number-is : keptFrameFor g s store out .number ≡ keptFrameNumber g s store out
-  unfolding keptFrameFor keptFramed
-  number-is = go (eqb (keptFrameNumber g s store out) 0) refl
-    where
-      go : (b : Bool) → eqb (keptFrameNumber g s store out) 0 ≡ b
-          → pick b (keptFramed g s) (record { number = keptFrameNumber g s store out; next = s; packets = noThree; spares = 0; filler = 0 }) .number ≡ keptFrameNumber g s store out
-      go true e = sym (eqb-true _ _ e)
-      go false e = refl
-
   abbrev desk : Desk
   desk = record { state = s .front; store = store }
 
@@ -94,7 +85,7 @@ module _ (g : Settings) (s : Sender) (store out : List ℕ) where
 pub counts : (f : Framer) → Frames f → Counts f
 counts f meets g s store out shape z =
     let m = meets g s store out in
-    let e : keptFrameNumber g s store out ≡ 0 = sym (number-is g s store out) ∙ ap (λ (a : Framed). a .number) (sym (m .0)) ∙ z in (
+    let e : keptFrameNumber g s store out ≡ 0 = sym (frame-says g s store out) ∙ ap (λ (a : Framed). a .number) (sym (m .0)) ∙ z in (
       (λ id h. ap (λ (a : Framed). at (a .packets) id) (m .0) ∙ queues-count g s store out shape e id h ∙ ap (heldBy g id) (sym (m .2))),
       ap (λ (a : Framed). a .filler) (m .0) ∙ filler-counts g s store out shape e ∙ ap (heldBy g 3) (sym (m .2)),
     )

@@ -4,7 +4,7 @@ use mathlib.Core.Path.{_≡_, refl, sym, ap, ap₂, _∙_, subst}
 use mathlib.Core.List.{List, []}
 use mathlib.Core.Bool.{Bool, true, false, not}
 use native.Mathlib.Omega.{arith}
-use borrow.Author.Tests.{eq-eqb, ne-eqb, eqb-true}
+use borrow.Author.Tests.{eq-eqb, ne-eqb}
 use lib.Dec.{eqb, lit<}
 use lib.ListN.{length}
 use Rattle.laws.specs.Pick.{pick}
@@ -20,6 +20,7 @@ use Rattle.sender.specs.declared.Front.{Front}
 use Rattle.sender.specs.declared.Sender.{Sender}
 use Rattle.sender.specs.declared.Framed.{Framed}
 use Rattle.sender.specs.Answers as answers
+use Rattle.sender.proofs.KeptFraming.{frame-says}
 use Rattle.sender.proofs.KeptLoading.{right-counts}
 use Rattle.demand.specs.Run.{Act, load, frame, settingsOf, after, answer}
 use Rattle.layers.specs.Run.{KeptDesk, plain, afterKept, answerKept}
@@ -73,17 +74,6 @@ load-wrong g s id unit store h = rw h (else-17 (eqb (settingsFor g) 0) (refusedW
 frame-wrong : (g : Settings) (s : Sender) (store out : List ℕ) → miscounted (g .p) s ≡ true → keptFrameNumber g s store out ≡ pick (eqb (settingsFor g) 0) 17 13
 unfolding keptFrameNumber keptFrameTests
 frame-wrong g s store out h = rw h (else-17 (eqb (settingsFor g) 0) (refusedWith (frameTests g (s .front) (length store) (length out))))
-
--- the number that a frame answers
-frame-says : (g : Settings) (s : Sender) (store out : List ℕ) → keptFrameFor g s store out .number ≡ keptFrameNumber g s store out
-unfolding keptFrameFor keptFramed
-frame-says g s store out = go (eqb (keptFrameNumber g s store out) 0) refl
-  where
-    go : (b : Bool) → eqb (keptFrameNumber g s store out) 0 ≡ b
-        → pick b (keptFramed g s) (record { number = keptFrameNumber g s store out; next = s; packets = noThree; spares = 0; filler = 0 }) .number
-        ≡ keptFrameNumber g s store out
-    go true e = sym (eqb-true _ 0 e)
-    go false e = refl
 
 pub number-wrong : (a : Act) (x : KeptDesk) → (Right (settingsOf a .p) (x .state) → ⊥) → answerKept a x .number ≡ pick (eqb (settingsFor (settingsOf a)) 0) 17 13
 unfolding answerKept keptLoadFor

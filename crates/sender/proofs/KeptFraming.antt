@@ -2,10 +2,12 @@
 use Prim.Native.Nat.{ℕ, _-_, _≤_, _<_}
 use mathlib.Core.Path.{_≡_, refl, sym, ap, ap₂, _∙_, subst}
 use mathlib.Core.List.{List, [], _∷_}
+use mathlib.Core.Bool.{Bool, true, false}
 use native.Mathlib.Omega.{arith}
-use borrow.Author.Tests.{ne-eqb}
-use lib.Dec.{lit<}
+use borrow.Author.Tests.{ne-eqb, eqb-true}
+use lib.Dec.{eqb, lit<}
 use lib.ListN.{length, getD}
+use Rattle.laws.specs.Pick.{pick}
 use Rattle.laws.specs.Refuse.{refusedWith}
 use Rattle.laws.specs.Written.{written}
 use Rattle.hand.specs.Settings.{Allowed}
@@ -113,6 +115,17 @@ module _ (g : Settings) (s : Sender) (room size : ℕ) (go : Going g s room size
             ∙ outer-is
 
 -- ---- the call
+-- the number that it answers is that of its tests
+pub frame-says : (g : Settings) (s : Sender) (store out : List ℕ) → keptFrameFor g s store out .number ≡ keptFrameNumber g s store out
+unfolding keptFrameFor keptFramed
+frame-says g s store out = go (eqb (keptFrameNumber g s store out) 0) refl
+  where
+    go : (b : Bool) → eqb (keptFrameNumber g s store out) 0 ≡ b
+        → pick b (keptFramed g s) (record { number = keptFrameNumber g s store out; next = s; packets = noThree; spares = 0; filler = 0 }) .number
+        ≡ keptFrameNumber g s store out
+    go true e = sym (eqb-true _ 0 e)
+    go false e = refl
+
 module _ (g : Settings) (s : Sender) (store out : List ℕ) (k : ℕ) (e : k ≡ refusedWith (keptFrameTests g s (length store) (length out))) where
   pub frame-refused : (k ≡ 0 → ⊥)
       → (_≡_ {A = Framed} (record { number = k; next = s; packets = noThree; spares = 0; filler = 0 }) (keptFrameFor g s store out))
