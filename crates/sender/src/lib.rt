@@ -1,5 +1,5 @@
-// The sender of a shared stream (01, "Packets, queues and receiver"): three queues of units and filler. Its state is handed over and
-// back as a value; the bytes of the units stand in a store that is lent, 4,096 for each queue.
+// The sender of a shared stream (01, "Packets, queues and receiver"; 02, E1): three queues of units and filler. Its state is handed over
+// and back as a value; the bytes of the units stand in a store that is lent, 4,096 for each queue.
 use hand::Settings;
 use hand::Three;
 use queue::Queue;
@@ -25,8 +25,8 @@ pub struct Front {
     pub index: [u8; 4],
 }
 
-// What callers hold from one call to the next: the packets that wait in each queue beside it (02, E1), for who shows them; load and frame
-// keep them, and refuse a state in which they are wrong.
+// What callers hold from one call to the next: 01's part, and beside it the packets that wait in each queue (E1), for whoever shows them.
+// Load and frame keep these counts, and refuse a state in which one of them is wrong.
 #[repr(C)]
 pub struct Sender {
     pub front: Front,
@@ -170,7 +170,7 @@ fn next_state(e: Ends, turn: usize) -> Front
     }
 }
 
-// A queue has eight places. Neither this nor `shape` does anything: they hand on what is known of arrays.
+// A queue has eight places. Neither this nor `shape` does anything: they hand on to a proof what the types say of arrays.
 fn known(q: Queue)
     ensures { λ _. ⌜ length (q .left) ≡ 8 ⌝ }
 {}
