@@ -22,7 +22,7 @@ use Rattle.sender.specs.Frame.{frameTests}
 use Rattle.sender.specs.Kept.{storedOf, miscounted, keptLoadTests, keptFrameTests}
 use Rattle.sender.specs.Private.{faulty, unitTests, Entering, Going}
 use Rattle.sender.specs.declared.Sender.{Sender}
-use Rattle.sender.proofs.Faults.{broken-at, broken-turn, broken-i0, broken-i1, broken-i2, broken-rest}
+use Rattle.sender.proofs.Faults.{broken-at, broken-turn, broken-index, broken-rest}
 use Rattle.sender.proofs.Loading.{passed}
 use Rattle.sender.proofs.Framing.{fit-of}
 
@@ -59,14 +59,8 @@ module _ (p : ℕ) (s : Sender) where
   pub faulty-turn : 2 < s .front .turn → true ≡ faulty p s
   faulty-turn h = faulty-front (broken-turn p (s .front) h)
 
-  pub faulty-i0 : 7 < getD (s .front .index) 0 0 → true ≡ faulty p s
-  faulty-i0 h = faulty-front (broken-i0 p (s .front) h)
-
-  pub faulty-i1 : 7 < getD (s .front .index) 1 0 → true ≡ faulty p s
-  faulty-i1 h = faulty-front (broken-i1 p (s .front) h)
-
-  pub faulty-i2 : 7 < getD (s .front .index) 2 0 → true ≡ faulty p s
-  faulty-i2 h = faulty-front (broken-i2 p (s .front) h)
+  pub faulty-index : (i : ℕ) → i < 4 → 7 < getD (s .front .index) i 0 → true ≡ faulty p s
+  faulty-index i h k = faulty-front (broken-index p (s .front) i h k)
 
   -- none of the first i queues is wrong
   pub record Looked (i : ℕ) : Type 0 where

@@ -1,7 +1,7 @@
 -- `sender::Sender::is_faulty` meets its contract. Assumes nothing.
 use Prim.Native.Nat.{_-_}
 use borrow.Author.Needs.{needs}
-use Rattle.sender.proofs.KeptChecks.{Looked, looked-none, looked-more, faulty-queue, faulty-turn, faulty-i0, faulty-i1, faulty-i2, faulty-rest}
+use Rattle.sender.proofs.KeptChecks.{Looked, looked-none, looked-more, faulty-queue, faulty-turn, faulty-index, faulty-rest}
 use Rattle.sender.proofs.Sender.is_faulty.Statement.{statement}
 use Rattle.sender.proofs.Sender.is_faulty.Tie as tie
 
@@ -48,19 +48,19 @@ array-read-if3 : tie.Need-array-read-if3 Inv-loop μ-loop
 array-read-if3 c = search needs
 
 returns-3 : tie.Need-returns-3 Inv-loop μ-loop
-returns-3 c = search faulty-i0
+returns-3 c = search (faulty-index, needs)
 
 array-read-if4 : tie.Need-array-read-if4 Inv-loop μ-loop
 array-read-if4 c = search needs
 
 returns-4 : tie.Need-returns-4 Inv-loop μ-loop
-returns-4 c = search faulty-i1
+returns-4 c = search (faulty-index, needs)
 
 array-read-if5 : tie.Need-array-read-if5 Inv-loop μ-loop
 array-read-if5 c = search needs
 
 returns-5 : tie.Need-returns-5 Inv-loop μ-loop
-returns-5 c = search faulty-i2
+returns-5 c = search (faulty-index, needs)
 
 array-read-result : tie.Need-array-read-result Inv-loop μ-loop
 array-read-result c = search needs
