@@ -1,6 +1,7 @@
 /* usage: bench list                    the rows, one to a line: name, turns that are enough to count it
           bench NAME rattle|c|idle N    runs one of the two codes N times, or what stands around it alone, and prints a sum of its answers
-   The number of instructions of such a run is what count.sh compares. */
+          bench NAME_bytes rattle|c 1   prints the bytes that the call moves
+   The number of instructions of a run of the second form is what count.sh compares. */
 #include <stdio.h>
 #include <stdlib.h>
 #include <string.h>
@@ -23,9 +24,10 @@ static void seal(uint8_t *s, size_t n) {
 }
 
 /* ---- the shared stream: 63 packets of 127 data bytes, 8,190 bytes a frame; every queue has more than it may send */
-static const struct keshgurvat_settings settings = {127, 63, {16, 16, 16}, {40, 40, 40}}, wrong = {0, 63, {16, 16, 16}, {40, 40, 40}};
+static const struct keshgurvat_settings settings = {127, 63, {16, 16, 16}, {40, 40, 40}}, wrong = {0, 63, {16, 16, 16}, {40, 40, 40}},
+    single = {127, 1, {1, 0, 0}, {1, 1, 1}}; /* frames of one packet */
 static uint8_t store[12288], buffer[16384], unit[1000], units[8][130];
-static struct keshgurvat_sender busy, half, state;
+static struct keshgurvat_sender busy, half, half_late, full, full_late, state;
 static struct keshgurvat_receiver link;
 static struct plain_framed framed;
 static struct plain_received received;
@@ -69,11 +71,35 @@ static void fill_stream(void) {
         for (int j = 0; j < 4; j++) half.q[k].left[j] = 500;
         half.waiting[k] = 16;
     }
+    full.q[0] = (struct keshgurvat_queue){{4096}, 1, 0}; /* one unit, 33 packets: not a byte is free in queue 0 */
+    full.waiting[0] = 33;
+    half_late = half, half_late.start[1] = 1600; /* a unit that is loaded then wraps */
+    full_late = full, full_late.start[0] = 4032; /* and so does the first packet */
     for (int k = 0; k < 8; k++) { /* two units of four packets */
         units[k][0] = (uint8_t)((k % 4 == 0) << 7 | (k % 4 == 3) << 6 | 1 << 4 | k);
         for (int j = 1; j < 128; j++) units[k][j] = (uint8_t)(j * 29 + k);
         seal(units[k], 128);
     }
+}
+
+/* The bytes that a frame of one packet moves where its queue is full, the most over starts all along the ring (E9 of 02): those of the store
+   that are others after it, and those that are in the packet's data. A byte of the store differs from the one 127 places on, and the packet's
+   place from what it gets, so each move shows. */
+static size_t bytes_moved(int rattle) {
+    static uint8_t before[sizeof store];
+    size_t most = 0;
+    for (size_t start = 0; start < 4096; start += 45) { /* the last is 4,095; of the last three the data wraps */
+        size_t moved = 0;
+        for (size_t i = 0; i < sizeof store; i++) before[i] = store[i] = (uint8_t)(i * 57 + 3);
+        for (size_t i = 0; i < 127; i++) out[1 + i] = (uint8_t)(before[(start + i) % 4096] + 1);
+        state = full;
+        state.start[0] = (uint16_t)start;
+        if (rattle ? frame_rattle(&single) : FRAME_C(&single)) exit(2);
+        for (size_t i = 0; i < sizeof store; i++) moved += store[i] != before[i];
+        for (size_t i = 0; i < 127; i++) moved += out[1 + i] != (uint8_t)(before[(start + i) % 4096] + 1);
+        if (moved > most) most = moved;
+    }
+    return most;
 }
 
 /* ---- the MDI packet: every known item but two of the streams, 100 bytes of SDC data, streams of 1,000 and 200 bytes */
@@ -137,7 +163,8 @@ static void fill_mdi(void) {
 }
 
 /* One line a row: its name, how many turns are enough to count it, what is done before each call and is not counted, the proved code, and
-   the plain C that it is compared with. A row `X_state` is call X refused by its first test: the cost of handing the state over and back. */
+   the plain C that it is compared with. A row `X_state` is call X refused by its first test: the cost of handing the state over and back.
+   The answer of a row `X_bytes` is how many bytes call X moves. */
 #define CALLS(X) \
     X(crc8, 4, , meter_crc8(buf, sizeof buf), plain_crc8(buf, sizeof buf)) \
     X(crc16, 4, , meter_crc16(buf, sizeof buf), plain_crc16(buf, sizeof buf)) \
@@ -145,7 +172,11 @@ static void fill_mdi(void) {
     X(packet_check, 8, , meter_check(255, packet, sizeof packet), plain_check(255, packet, sizeof packet)) \
     X(frame, 2, state = busy, frame_rattle(&settings), FRAME_C(&settings)) \
     X(frame_state, 8, state = busy, frame_rattle(&wrong), FRAME_C(&wrong)) \
+    X(frame_one, 8, state = full, frame_rattle(&single), FRAME_C(&single)) \
+    X(frame_one_wraps, 8, state = full_late, frame_rattle(&single), FRAME_C(&single)) \
+    X(frame_one_bytes, 1, , bytes_moved(1), bytes_moved(0)) \
     X(load, 8, state = half, load_rattle(&settings), LOAD_C(&settings)) \
+    X(load_wraps, 8, state = half_late, load_rattle(&settings), LOAD_C(&settings)) \
     X(load_state, 8, state = half, load_rattle(&wrong), LOAD_C(&wrong)) \
     X(receive, 8, , receive_rattle(127, units[i % 8]), RECEIVE_C(127, units[i % 8])) \
     X(receive_state, 8, , receive_rattle(0, units[i % 8]), RECEIVE_C(0, units[i % 8])) \
@@ -172,7 +203,7 @@ static void fill_mdi(void) {
         else TIMES(before, *still) \
     }
 
-/* All that a call may have written. The places of `left` behind `count` and the padding say nothing and are left out. */
+/* All that a call may have written. The places of `left` behind `count` say nothing and are left out. */
 static unsigned long long sum_of(const void *at, size_t n, unsigned long long sum) {
     for (size_t i = 0; i < n; i++) sum = sum * 31 + ((const uint8_t *)at)[i];
     return sum;
@@ -190,7 +221,7 @@ static unsigned long long sum_all(unsigned long long sum) {
     for (int k = 0; k < 3; k++)
         sum = sum_of(state.q[k].left, 2 * state.q[k].count, sum) * 31 + state.q[k].sent;
     sum = sum_of(state.index, 4, sum) * 31 + state.turn;
-    for (int k = 0; k < 3; k++) sum = sum * 31 + state.waiting[k];
+    for (int k = 0; k < 3; k++) sum = (sum * 31 + state.waiting[k]) * 31 + state.start[k];
     for (int k = 0; k < 4; k++)
         sum = (((sum * 31 + link.link[k].heard) * 31 + link.link[k].index) * 31 + link.link[k].begun) * 31 + link.link[k].len;
     for (int k = 0; k < 3; k++) sum = sum * 31 + framed.packets[k];
@@ -218,6 +249,10 @@ int main(int argc, char **argv) {
     if (!strncmp(call, "mdi_read_", 9)) fill_hostile();
     CALLS(RUN)
     if (!found) return 2;
+    if (strstr(call, "_bytes")) {
+        printf("%llu\n", sum);
+        return 0;
+    }
     printf("%llx\n", sum_all(sum) | 1ull << 63); /* 16 digits for every sum: they are counted too */
     return 0;
 }

@@ -1,5 +1,6 @@
 #!/bin/sh
-# Instructions per call of the proved code and of plain C, and their ratio, for each row that 'bench list' names; limits.txt has the limits.
+# Instructions per call of the proved code and of plain C, and their ratio, for each row that 'bench list' names, of a row X_bytes the bytes that
+# X moves; limits.txt has the limits.
 # usage: bench/count.sh [ROW..]
 # Status 0: counted. 1: a row is above what limits.txt allows it, the two codes give different answers, or the code of dispersal reads stored data.
 # 2: it could not be counted.
@@ -53,8 +54,13 @@ a_turn() { # ROW rattle|c|idle TURNS: by the difference of two runs, in which al
     echo $(((twice - once) / $3))
 }
 
-count() { # ROW: sets rattle and plain, the instructions of one call
+count() { # ROW: sets rattle and plain, the instructions of one call, or what the bench itself says of X_bytes
     turns=$(echo "$rows" | sed -n "s/^$1 //p")
+    case $1 in *_bytes)
+        rattle=$(bench "$1" rattle "$turns") && plain=$(bench "$1" c "$turns") || cannot "no bytes of $1."
+        return
+        ;;
+    esac
     idle=$(a_turn "$1" idle "$turns")
     rattle=$(($(a_turn "$1" rattle "$turns") - idle))
     plain=$(($(a_turn "$1" c "$turns") - idle))
@@ -90,7 +96,7 @@ for call in $calls; do
     line=$(sed 's/#.*//' "$here/limits.txt" | awk -v n="$call" '$1 == n')
     [ -n "$line" ] || cannot "limits.txt has no line of $call."
     echo "$line" | awk -v n="$call" -v r="$rattle" -v c="$plain" -v state="$state" '{
-        of = $2 < 1000 ? r / c : r # a limit of 1,000 and more is one of instructions
+        of = n !~ /_bytes$/ && $2 < 1000 ? r / c : r # a limit of 1,000 and more is one of instructions, and of X_bytes any is one of bytes
         printf "%-18s %10d %10d %7.2f %9s %9s", n, r, c, r / c, $2, state
         if (of > $2) {
             why = $0; sub(/^[^ ]+ +[^ ]+ +[^ ]+ */, "", why)
@@ -101,6 +107,7 @@ for call in $calls; do
         printf "\n"
         exit of > $2 && (NF < 3 || of > $3)
     }' || status=1
+    case $call in *_bytes) continue ;; esac # what is said of it are no answers
     if [ "$(bench "$call" rattle "$turns")" != "$(bench "$call" c "$turns")" ]; then
         echo "$call: the two give different answers"
         status=1

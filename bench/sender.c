@@ -36,11 +36,31 @@ static int broken_queue(const struct keshgurvat_queue *q, size_t waiting, size_t
 
 static int broken(const struct keshgurvat_sender *s, size_t p) {
     for (int i = 0; i < 3; i++)
-        if (broken_queue(&s->q[i], s->waiting[i], p)) return 1;
+        if (s->start[i] > 4095 || broken_queue(&s->q[i], s->waiting[i], p)) return 1;
     if (s->turn > 2) return 1;
     for (int i = 0; i < 4; i++)
         if (s->index[i] > 7) return 1;
     return 0;
+}
+
+/* Bytes into a queue's ring and out of it, from place `at` of its part on: in two pieces where they reach its end. */
+static void copy_in(uint8_t *part, size_t at, const uint8_t *bytes, size_t n) {
+    size_t room = 4096 - at;
+    if (n <= room) {
+        memcpy(part + at, bytes, n);
+    } else {
+        memcpy(part + at, bytes, room);
+        memcpy(part, bytes + room, n - room);
+    }
+}
+static void copy_out(uint8_t *to, const uint8_t *part, size_t at, size_t n) {
+    size_t room = 4096 - at;
+    if (n <= room) {
+        memcpy(to, part + at, n);
+    } else {
+        memcpy(to, part + at, room);
+        memcpy(to + room, part, n - room);
+    }
 }
 
 uint32_t plain_load(struct keshgurvat_sender *state, const struct keshgurvat_settings *settings, uint8_t *store, size_t store_len,
@@ -52,7 +72,7 @@ uint32_t plain_load(struct keshgurvat_sender *state, const struct keshgurvat_set
     struct keshgurvat_queue *q = &state->q[id];
     size_t bytes = unsent(q);
     if (q->count >= 8 || unit_len + bytes > 4096) return 15;
-    memcpy(store + id * 4096 + bytes, unit, unit_len);
+    copy_in(store + id * 4096, (state->start[id] + bytes) % 4096, unit, unit_len);
     q->left[q->count++] = (uint16_t)unit_len;
     state->waiting[id] += (uint16_t)packets_of(unit_len, settings->p);
     return 0;
@@ -83,30 +103,31 @@ static void hand_out(struct keshgurvat_sender *state, const struct keshgurvat_se
     f->filler = s->n - sum;
 }
 
-static void put_packet(size_t p, uint8_t head, const uint8_t *useful, size_t n, uint8_t *out) {
+/* A packet with n useful bytes, which begin at place `at` of a queue's part. */
+static void put_packet(size_t p, uint8_t head, const uint8_t *part, size_t at, size_t n, uint8_t *out) {
     if (n < p) {
         out[0] = head | 8;
         out[1] = (uint8_t)n;
-        memcpy(out + 2, useful, n);
+        copy_out(out + 2, part, at, n);
         memset(out + 2 + n, 0, p - 1 - n);
     } else {
         out[0] = head;
-        memcpy(out + 1, useful, p);
+        copy_out(out + 1, part, at, p);
     }
     uint16_t word = plain_crc16(out, p + 1);
     out[p + 1] = (uint8_t)(word >> 8);
     out[p + 2] = (uint8_t)word;
 }
 
-/* The next n packets of a queue, which wait no longer; its unsent bytes then move to the front of its part of the store. */
-static uint8_t *put_row(struct keshgurvat_sender *state, size_t p, size_t id, size_t n, uint8_t *part, uint8_t *out) {
+/* The next n packets of a queue, which wait no longer; its ring then begins behind their bytes. */
+static uint8_t *put_row(struct keshgurvat_sender *state, size_t p, size_t id, size_t n, const uint8_t *part, uint8_t *out) {
     struct keshgurvat_queue *q = &state->q[id];
-    const uint8_t *from = part;
+    size_t at = state->start[id];
     for (size_t k = 0; k < n; k++) {
         size_t left = q->left[0], use = left < p ? left : p;
         int last = left <= p;
-        put_packet(p, (uint8_t)((q->sent == 0) << 7 | last << 6 | id << 4 | state->index[id]), from, use, out);
-        from += use;
+        put_packet(p, (uint8_t)((q->sent == 0) << 7 | last << 6 | id << 4 | state->index[id]), part, at, use, out);
+        at = (at + use) % 4096;
         out += p + 3;
         state->index[id] = (state->index[id] + 1) & 7;
         if (last) {
@@ -120,11 +141,11 @@ static uint8_t *put_row(struct keshgurvat_sender *state, size_t p, size_t id, si
         }
     }
     state->waiting[id] -= (uint16_t)n;
-    memmove(part, from, unsent(q));
+    state->start[id] = (uint16_t)at;
     return out;
 }
 
-uint32_t plain_frame(struct keshgurvat_sender *state, const struct keshgurvat_settings *settings, uint8_t *store, size_t store_len,
+uint32_t plain_frame(struct keshgurvat_sender *state, const struct keshgurvat_settings *settings, const uint8_t *store, size_t store_len,
                      uint8_t *out, size_t out_len, struct plain_framed *framed) {
     size_t p = settings->p;
     if (bad_settings(settings)) return 13;
@@ -133,7 +154,7 @@ uint32_t plain_frame(struct keshgurvat_sender *state, const struct keshgurvat_se
     hand_out(state, settings, framed);
     for (size_t id = 0; id < 3; id++) out = put_row(state, p, id, framed->packets[id], store + id * 4096, out);
     for (size_t k = 0; k < framed->filler; k++) {
-        put_packet(p, (uint8_t)(0xf0 | state->index[3]), out, 0, out);
+        put_packet(p, (uint8_t)(0xf0 | state->index[3]), store, 0, 0, out);
         state->index[3] = (state->index[3] + 1) & 7;
         out += p + 3;
     }

@@ -7,6 +7,6 @@ struct plain_framed {
 };
 uint32_t plain_load(struct keshgurvat_sender *state, const struct keshgurvat_settings *settings, uint8_t *store, size_t store_len,
                     size_t id, const uint8_t *unit, size_t unit_len);
-uint32_t plain_frame(struct keshgurvat_sender *state, const struct keshgurvat_settings *settings, uint8_t *store, size_t store_len,
+uint32_t plain_frame(struct keshgurvat_sender *state, const struct keshgurvat_settings *settings, const uint8_t *store, size_t store_len,
                      uint8_t *out, size_t out_len, struct plain_framed *framed);
 #endif

@@ -62,26 +62,31 @@ KESHGURVAT_FIELD(keshgurvat_queue, left, 0);
 KESHGURVAT_FIELD(keshgurvat_queue, count, 16);
 KESHGURVAT_FIELD(keshgurvat_queue, sent, 24);
 
-/* The sender: three queues, whose turn it is to get a spare, the next continuity index of each id, filler (id 3) last, and the packets that
-   wait in queues 0, 1, 2. padding says nothing: no call looks at it, and it need not come back as it was.
+/* The sender: three queues, whose turn it is to get a spare, the next continuity index of each id, filler (id 3) last, and of queues 0, 1, 2
+   the packets that wait and where the unsent bytes begin. No byte of it is padding.
    waiting (E1 of 02) is, of each queue, the packets of p data bytes that its units still take: the bytes left of each unit over p, rounded
    up, and these added up. load and frame keep it; a caller reads it, as the desk display does, and adds up nothing. A state in which one of
    the three differs from that sum, for the p of the call's settings, is 17 in load and in frame, whichever queue it is; so the way to another
    p is to let all three queues run empty. After an accepted load next.waiting[id] is the k of the promise: with a share of s the unit is
-   wholly sent within k/s frames, rounded up. */
+   wholly sent within k/s frames, rounded up.
+   start (E9 of 02): a queue is a ring in its 4,096 bytes of the store. Byte i of its unsent bytes, which are the bytes left of its units one
+   behind the other, is store[4096 * id + (start[id] + i) % 4096]. load leaves start as it is, frame moves it by the useful bytes that it sent,
+   modulo 4,096, also where the queue runs empty: which bytes are unsent the units say, and a full ring may begin anywhere. The other bytes of
+   the store say nothing and need not be kept: a fresh sender goes with a store of any content, so that none has to be cleared. A store that is
+   copied elsewhere as a whole goes on with the state as it is. A start over 4,095 is 17 in load and in frame, whichever queue it is. */
 struct keshgurvat_sender {
     struct keshgurvat_queue q[3];
     size_t turn;
     uint8_t index[4];
-    uint8_t padding[4];
     uint16_t waiting[3];
+    uint16_t start[3];
 };
 KESHGURVAT_LAYOUT(sizeof(struct keshgurvat_sender) == 120);
 KESHGURVAT_FIELD(keshgurvat_sender, q, 0);
 KESHGURVAT_FIELD(keshgurvat_sender, turn, 96);
 KESHGURVAT_FIELD(keshgurvat_sender, index, 104);
-KESHGURVAT_FIELD(keshgurvat_sender, padding, 108);
-KESHGURVAT_FIELD(keshgurvat_sender, waiting, 112);
+KESHGURVAT_FIELD(keshgurvat_sender, waiting, 108);
+KESHGURVAT_FIELD(keshgurvat_sender, start, 114);
 
 /* The answer to a load: the number, and the sender after it. */
 struct keshgurvat_loaded {
@@ -162,20 +167,22 @@ uint32_t keshgurvat_packet_check(size_t p, const uint8_t *packet, size_t packet_
    13: p outside 1 to 255; n 0; n (p + 3) over 8,190; a share over its ceiling; a ceiling 0 or over n; shares over n together. */
 uint32_t keshgurvat_settings_check(struct keshgurvat_settings settings);
 
-/* A sender with no unit, turn 0, indexes 0, none waiting. No refusals. */
+/* A sender with no unit, turn 0, indexes 0, none waiting, starts 0; the store beside it may have any content. No refusals. */
 struct keshgurvat_sender keshgurvat_sender_fresh(void);
 
-/* A unit for queue id; its bytes go to the store, and waiting[id] rises by the packets that it takes.
-   13: the settings. 17: the state, as 01 lists it, or where one of the three in waiting is not the sum for this p; never in a run from a fresh
-   sender with p unchanged. 1: a store other than 12,288 bytes; a unit over 65,528. 14: a unit empty or over 4,096 bytes; id over 2. 15: eight
-   units unfinished, or too few bytes free in the queue. */
+/* A unit for queue id; its bytes go to the store, behind the unsent ones of its queue, at the front of the queue's 4,096 bytes where they reach
+   their end, and no other byte of the store is written. waiting[id] rises by the packets that it takes.
+   13: the settings. 17: the state, as 01 lists it, or where one of the three in waiting is not the sum for this p or one of the three in start
+   is over 4,095; never in a run from a fresh sender with p unchanged. 1: a store other than 12,288 bytes; a unit over 65,528. 14: a unit empty
+   or over 4,096 bytes; id over 2. 15: eight units unfinished, or too few bytes free in the queue. */
 struct keshgurvat_loaded keshgurvat_load(struct keshgurvat_sender state, struct keshgurvat_settings settings,
                                          uint8_t *store, size_t store_length, size_t id, const uint8_t *unit, size_t unit_length);
 
-/* The next frame, n (p + 3) bytes, to the front of the output; waiting falls by the packets of each queue in it.
+/* The next frame, n (p + 3) bytes, to the front of the output; waiting falls by the packets of each queue in it, and start moves by their
+   useful bytes. The store is only read, and may stand where nothing can be written.
    13: the settings. 17: the state, as above. 1: a store other than 12,288 bytes. 1, last: an output under n (p + 3) bytes. */
 struct keshgurvat_framed keshgurvat_frame(struct keshgurvat_sender state, struct keshgurvat_settings settings,
-                                          uint8_t *store, size_t store_length, uint8_t *output, size_t output_length);
+                                          const uint8_t *store, size_t store_length, uint8_t *output, size_t output_length);
 
 /* A receiver that no packet has come to. No refusals. */
 struct keshgurvat_receiver keshgurvat_receiver_fresh(void);

@@ -64,10 +64,10 @@ uint32_t model_settings(const struct keshgurvat_settings *s) {
     return 0;
 }
 
-/* ---- the sender: a queue as the list of its units' lengths left */
-static size_t unsent(const struct keshgurvat_queue *q) {
+/* ---- the sender: a queue as the list of its units' lengths left, its unsent bytes in a ring or, as before E9 of 02, at the front */
+size_t model_unsent(const struct keshgurvat_queue *q) {
     size_t n = 0;
-    for (size_t i = 0; i < q->count; i++) n += q->left[i];
+    for (size_t i = 0; i < q->count && i < 8; i++) n += q->left[i];
     return n;
 }
 
@@ -87,7 +87,7 @@ static bool is_17(const struct keshgurvat_sender *state, size_t p) {
             size_t sent = i == 0 ? q->sent : 0;
             if (q->left[i] == 0 || sent > 4096 || q->left[i] + sent > 4096) return true;
         }
-        if (unsent(q) > 4096 || q->sent % p != 0 || (q->count == 0 && q->sent != 0)) return true;
+        if (model_unsent(q) > 4096 || q->sent % p != 0 || (q->count == 0 && q->sent != 0)) return true;
         if (state->waiting[id] != model_waiting(q, p)) return true; /* E1 of 02: the stored count differs from the sum */
     }
     for (int id = 0; id < 4; id++)
@@ -95,17 +95,50 @@ static bool is_17(const struct keshgurvat_sender *state, size_t p) {
     return state->turn > 2;
 }
 
-uint32_t model_load(struct keshgurvat_sender *state, const struct keshgurvat_settings *s, uint8_t *store, size_t room, size_t id,
-                    const uint8_t *unit, size_t n) {
+enum layout { RINGS, FRONT }; /* E9 of 02, and the one before it, which has no start */
+
+static bool is_astray(const struct keshgurvat_sender *state, enum layout layout) {
+    return layout == RINGS && (state->start[0] > 4095 || state->start[1] > 4095 || state->start[2] > 4095);
+}
+
+static uint32_t load_number(const struct keshgurvat_sender *state, const struct keshgurvat_settings *s, enum layout layout, size_t room,
+                            size_t id, size_t n) {
     if (model_settings(s)) return 13;
-    if (is_17(state, s->p)) return 17;
+    if (is_astray(state, layout) || is_17(state, s->p)) return 17;
     if (room != 12288 || n > 65528) return 1;
     if (n < 1 || n > 4096 || id > 2) return 14;
+    return n + model_unsent(&state->q[id]) > 4096 || state->q[id].count >= 8 ? 15 : 0;
+}
+
+static void add_unit(struct keshgurvat_sender *state, size_t p, size_t id, size_t n) {
     struct keshgurvat_queue *q = &state->q[id];
-    if (n + unsent(q) > 4096 || q->count >= 8) return 15;
-    memcpy(store + 4096 * id + unsent(q), unit, n);
     q->left[q->count++] = (uint16_t)n;
-    state->waiting[id] = (uint16_t)(state->waiting[id] + packets_of(n, s->p));
+    state->waiting[id] = (uint16_t)(state->waiting[id] + packets_of(n, p));
+}
+
+/* the place in the store of byte i of a queue that begins at its start */
+static size_t place(const struct keshgurvat_sender *state, size_t id, size_t i) { return 4096 * id + (state->start[id] + i) % 4096; }
+
+void model_ring(const struct keshgurvat_sender *state, const uint8_t *store, size_t id, uint8_t line[4096]) {
+    for (size_t i = 0; i < 4096; i++) line[i] = store[place(state, id, i)];
+}
+
+uint32_t model_load(struct keshgurvat_sender *state, const struct keshgurvat_settings *s, uint8_t *store, size_t room, size_t id,
+                    const uint8_t *unit, size_t n) {
+    uint32_t number = load_number(state, s, RINGS, room, id, n);
+    if (number) return number;
+    size_t before = model_unsent(&state->q[id]);
+    for (size_t j = 0; j < n; j++) store[place(state, id, before + j)] = unit[j];
+    add_unit(state, s->p, id, n);
+    return 0;
+}
+
+uint32_t model_load_front(struct keshgurvat_sender *state, const struct keshgurvat_settings *s, uint8_t *store, size_t room, size_t id,
+                          const uint8_t *unit, size_t n) {
+    uint32_t number = load_number(state, s, FRONT, room, id, n);
+    if (number) return number;
+    memcpy(store + 4096 * id + model_unsent(&state->q[id]), unit, n);
+    add_unit(state, s->p, id, n);
     return 0;
 }
 
@@ -128,7 +161,7 @@ static void hand_out(struct keshgurvat_sender *state, const struct keshgurvat_se
     c->filler = s->n - total;
 }
 
-/* one packet of a queue, whose unsent bytes begin at `from`; gives its useful bytes */
+/* one packet of a queue, whose unsent bytes stand in order at `from`; gives its useful bytes */
 static size_t send_one(struct keshgurvat_queue *q, size_t p, size_t id, uint8_t index, const uint8_t *from, uint8_t *to) {
     size_t n = q->left[0] < p ? q->left[0] : p;
     bool last = n == q->left[0];
@@ -142,26 +175,55 @@ static size_t send_one(struct keshgurvat_queue *q, size_t p, size_t id, uint8_t 
     return n;
 }
 
-uint32_t model_frame(struct keshgurvat_sender *state, const struct keshgurvat_settings *s, uint8_t *store, size_t room, uint8_t *out,
+/* the packets of one id, to the front of `out`; gives the useful bytes sent, which are the first of the unsent ones, in order, at `from` */
+static size_t send_row(struct keshgurvat_sender *state, size_t p, size_t id, size_t packets, const uint8_t *from, uint8_t *out) {
+    size_t sent = 0;
+    for (size_t k = 0; k < packets; k++, out += p + 3) {
+        if (id < 3) sent += send_one(&state->q[id], p, id, state->index[id], from + sent, out);
+        else model_packet(out, p, true, true, 3, state->index[3], NULL, 0);
+        state->index[id] = (state->index[id] + 1) % 8;
+    }
+    if (id < 3) state->waiting[id] = (uint16_t)(state->waiting[id] - packets);
+    return sent;
+}
+
+static uint32_t frame_number(const struct keshgurvat_sender *state, const struct keshgurvat_settings *s, enum layout layout, size_t room,
+                             size_t size) {
+    if (model_settings(s)) return 13;
+    if (is_astray(state, layout) || is_17(state, s->p)) return 17;
+    return room != 12288 || size < s->n * (s->p + 3) ? 1 : 0;
+}
+
+uint32_t model_frame(struct keshgurvat_sender *state, const struct keshgurvat_settings *s, const uint8_t *store, size_t room, uint8_t *out,
                      size_t size, struct model_counts *counts) {
     memset(counts, 0, sizeof *counts);
-    if (model_settings(s)) return 13;
-    if (is_17(state, s->p)) return 17;
-    if (room != 12288 || size < s->n * (s->p + 3)) return 1;
+    uint32_t number = frame_number(state, s, RINGS, room, size);
+    if (number) return number;
     hand_out(state, s, counts);
-    for (size_t id = 0; id < 4; id++) {
-        uint8_t *part = id < 3 ? store + 4096 * id : NULL;
-        size_t sent = 0;
-        for (size_t k = 0; k < (id < 3 ? counts->packets[id] : counts->filler); k++) {
-            if (id < 3) sent += send_one(&state->q[id], s->p, id, state->index[id], part + sent, out);
-            else model_packet(out, s->p, true, true, 3, state->index[3], NULL, 0);
-            state->index[id] = (state->index[id] + 1) % 8;
-            out += s->p + 3;
-        }
-        if (id == 3) break;
-        memmove(part, part + sent, unsent(&state->q[id]));
-        state->waiting[id] = (uint16_t)(state->waiting[id] - counts->packets[id]);
+    for (size_t id = 0; id < 3; id++) {
+        uint8_t line[4096];
+        model_ring(state, store, id, line);
+        size_t sent = send_row(state, s->p, id, counts->packets[id], line, out);
+        state->start[id] = (uint16_t)((state->start[id] + sent) % 4096);
+        out += counts->packets[id] * (s->p + 3);
     }
+    send_row(state, s->p, 3, counts->filler, NULL, out);
+    return 0;
+}
+
+uint32_t model_frame_front(struct keshgurvat_sender *state, const struct keshgurvat_settings *s, uint8_t *store, size_t room, uint8_t *out,
+                           size_t size, struct model_counts *counts) {
+    memset(counts, 0, sizeof *counts);
+    uint32_t number = frame_number(state, s, FRONT, room, size);
+    if (number) return number;
+    hand_out(state, s, counts);
+    for (size_t id = 0; id < 3; id++) {
+        uint8_t *part = store + 4096 * id;
+        size_t sent = send_row(state, s->p, id, counts->packets[id], part, out);
+        memmove(part, part + sent, model_unsent(&state->q[id]));
+        out += counts->packets[id] * (s->p + 3);
+    }
+    send_row(state, s->p, 3, counts->filler, NULL, out);
     return 0;
 }
 

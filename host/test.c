@@ -1,5 +1,6 @@
 /* Every call of keshgurvat.h on many inputs (valid, damaged, at the limits), compared with the second account in model.c. Each buffer
-   stands between guard bytes; whatever the model leaves as it was, the library must.
+   stands between guard bytes; whatever the model leaves as it was, the library must. Loads and frames are held against the layout before
+   E9 of 02 too.
    usage: test [SEED]; the last line is 'N passed, M failed', the status 0 only where M is 0. */
 #include <stdio.h>
 #include <stdlib.h>
@@ -49,6 +50,13 @@ enum beside { NOTHING, NOT_LOADED, BAD_SETTINGS, SHORT_STORE, NINE_UNITS, BESIDE
 enum change { EMPTY, EQUAL, EQUAL_SENT, UNEQUAL, CHANGES };
 static unsigned long kinds[2][KINDS], besides[BESIDES], changes[CHANGES];
 
+/* ---- starts (E9 of 02): how often one over 4,095 came to a load [0] or a frame [1], by what it was, and by what was wrong beside it; and how
+   often a unit or the useful bytes of a packet came to the end of a ring, a ring was full, and a queue ran empty, with a start that is not 0 */
+enum stray { FIRST_OVER, LAST_OVER, ANY_OVER, STRAYS };
+enum with { ALONE, NO_UNITS, OTHER_QUEUE, WITH_SETTINGS, WITH_STORE, WITH_COUNT, WITH_UNITS, WITHS };
+enum turned { UNIT_WRAPS, UNIT_TO_END, UNIT_AT_FRONT, FULL, WRAPS, PADDED_WRAPS, TO_END, EMPTIED, TURNEDS };
+static unsigned long strays[2][STRAYS], withs[WITHS], turned[TURNEDS];
+
 static void often(const char *title, const char *const name[], const unsigned long met[], int n) {
     printf("%-14s", title);
     for (int i = 0; i < n; i++) {
@@ -65,6 +73,12 @@ static void test_often(void) {
     often("bytes dropped", cause, causes, CAUSES);
     often("counts, load", kind, kinds[0], KINDS), often("counts, frame", kind, kinds[1], KINDS);
     often("and wrong", beside, besides, BESIDES), often("another p", change, changes, CHANGES);
+    static const char *const stray[STRAYS] = {"4096", "65535", "any over 4095"};
+    static const char *const with[WITHS] = {"nothing", "no units", "other queue", "settings", "store", "a count", "nine units"};
+    static const char *const round[TURNEDS] = {"unit wraps", "unit to the end", "unit at the front", "full", "packet wraps", "padded packet wraps",
+                                               "packet to the end", "emptied"};
+    often("starts, load", stray, strays[0], STRAYS), often("starts, frame", stray, strays[1], STRAYS);
+    often("and wrong", with, withs, WITHS), often("rings", round, turned, TURNEDS);
 }
 
 /* ---- chance */
@@ -88,14 +102,17 @@ struct lent {
 static struct lent input, output, store, buffer;
 
 static uint8_t guard(size_t i) { return (uint8_t)(0xa5 ^ 29 * i); }
+static void any_bytes(uint8_t *to, size_t n) {
+    for (size_t i = 0; i < n; i += 8) {
+        uint64_t any = draw();
+        memcpy(to + i, &any, n - i < 8 ? n - i : 8);
+    }
+}
 static void lend(struct lent *b, const uint8_t *bytes, size_t n) { /* where no bytes are given, any */
     b->ours = b->room + GUARD + below(8);
     b->length = n;
-    uint64_t any = draw();
-    for (size_t i = 0; i < n; i++) {
-        any = any * 6364136223846793005u + 1442695040888963407u;
-        b->model[i] = bytes ? bytes[i] : (uint8_t)(any >> 56);
-    }
+    if (bytes) memcpy(b->model, bytes, n);
+    else any_bytes(b->model, n);
     memcpy(b->ours, b->model, n);
     for (size_t i = 0; i < GUARD; i++) b->ours[-1 - (long)i] = b->ours[n + i] = guard(i);
 }
@@ -109,18 +126,87 @@ static bool settled(const struct lent *b) { /* as the model left it, and nothing
 static bool same_queue(const struct keshgurvat_queue *a, const struct keshgurvat_queue *b, size_t places) {
     return a->count == b->count && a->sent == b->sent && memcmp(a->left, b->left, places * sizeof a->left[0]) == 0;
 }
-/* all of it where nothing may change, but the padding; else the places that say something */
-static bool same_sender(const struct keshgurvat_sender *a, const struct keshgurvat_sender *b, bool all) {
+/* all of it where nothing may change; else the places that say something; the starts apart */
+static bool same_but_start(const struct keshgurvat_sender *a, const struct keshgurvat_sender *b, bool all) {
     for (int i = 0; i < 3; i++)
         if (!same_queue(&a->q[i], &b->q[i], all || a->q[i].count > 8 ? 8 : a->q[i].count)) return false;
     return a->turn == b->turn && memcmp(a->index, b->index, sizeof a->index) == 0 && memcmp(a->waiting, b->waiting, sizeof a->waiting) == 0;
 }
+static bool same_sender(const struct keshgurvat_sender *a, const struct keshgurvat_sender *b, bool all) {
+    return same_but_start(a, b, all) && memcmp(a->start, b->start, sizeof a->start) == 0;
+}
+static bool astray(const struct keshgurvat_sender *t) { return t->start[0] > 4095 || t->start[1] > 4095 || t->start[2] > 4095; }
 static bool same_receiver(const struct keshgurvat_receiver *a, const struct keshgurvat_receiver *b) {
     for (int i = 0; i < 4; i++) {
         const struct keshgurvat_link *x = &a->link[i], *y = &b->link[i];
         if (x->heard != y->heard || x->index != y->index || x->begun != y->begun || x->len != y->len) return false;
     }
     return true;
+}
+
+/* ---- the layout before E9 of 02: every call is tried in it too, and has to answer the same. A run keeps it from its first call on, with a
+   store that has the unsent bytes at the front of its parts and otherwise another content; any other call gets it afresh, unless a start is
+   over 4,095, which has no counterpart there. */
+static struct {
+    bool running;
+    struct keshgurvat_sender state;
+    uint8_t store[MOST], out[MOST];
+} front;
+static size_t unsent_of(const struct keshgurvat_queue *q) { return model_unsent(q) > 4096 ? 4096 : model_unsent(q); }
+
+static void front_take(const struct keshgurvat_sender *state, bool running) {
+    uint8_t line[4096];
+    front.running = running, front.state = *state;
+    any_bytes(front.store, store.length);
+    for (size_t id = 0; id < 3 && store.length == 12288; id++)
+        model_ring(state, store.model, id, line), memcpy(front.store + 4096 * id, line, unsent_of(&state->q[id]));
+}
+static bool front_taken(const struct keshgurvat_sender *state) {
+    if (astray(state)) return false;
+    if (!front.running) front_take(state, false);
+    return true;
+}
+static bool same_unsent(const struct keshgurvat_sender *state) {
+    uint8_t line[4096];
+    if (astray(state)) return false;
+    for (size_t id = 0; id < 3 && store.length == 12288; id++) {
+        model_ring(state, store.ours, id, line);
+        if (memcmp(front.store + 4096 * id, line, unsent_of(&state->q[id]))) return false;
+    }
+    return true;
+}
+static void load_front(const struct keshgurvat_loaded *got, const struct keshgurvat_settings *s, size_t room, size_t id, size_t n,
+                       unsigned long t) {
+    uint32_t number = model_load_front(&front.state, s, front.store, room, id, input.model, n);
+    check(got->number == number && same_but_start(&got->next, &front.state, false), "load in the old layout", t);
+    check(same_unsent(&got->next), "unsent bytes after a load in the old layout", t);
+}
+static void frame_front(const struct keshgurvat_framed *got, const struct keshgurvat_settings *s, size_t room, size_t size, unsigned long t) {
+    struct model_counts c;
+    uint32_t number = model_frame_front(&front.state, s, front.store, room, front.out, size, &c);
+    check(got->number == number && same_but_start(&got->next, &front.state, false)
+              && memcmp(front.out, output.ours, size) == 0, "frame in the old layout", t);
+    check(got->packets.a == c.packets[0] && got->packets.b == c.packets[1] && got->packets.c == c.packets[2]
+              && got->spares == c.spares && got->filler == c.filler, "frame's counts in the old layout", t);
+    check(same_unsent(&got->next), "unsent bytes after a frame in the old layout", t);
+}
+
+/* how the ring was met: by an accepted load, whose queue was `before`, and by the packets of an accepted frame */
+static void saw_load(const struct keshgurvat_sender *before, size_t id, size_t n) {
+    size_t start = before->start[id], unsent = model_unsent(&before->q[id]), at = (start + unsent) % 4096;
+    if (start == 0) return;
+    turned[UNIT_WRAPS] += at + n > 4096, turned[UNIT_TO_END] += at + n == 4096, turned[UNIT_AT_FRONT] += at < start;
+    turned[FULL] += unsent + n == 4096;
+}
+static void saw_frame(const struct keshgurvat_sender *before, const struct keshgurvat_sender *after, const struct keshgurvat_settings *s) {
+    size_t at[3] = {before->start[0], before->start[1], before->start[2]};
+    for (const uint8_t *k = output.model; k < output.model + s->n * (s->p + 3); k += s->p + 3) {
+        size_t id = k[0] >> 4 & 3, useful = k[0] & 8 ? k[1] : s->p;
+        if (id == 3) break;
+        turned[useful < s->p ? PADDED_WRAPS : WRAPS] += at[id] + useful > 4096, turned[TO_END] += at[id] + useful == 4096;
+        at[id] = (at[id] + useful) % 4096;
+    }
+    for (int id = 0; id < 3; id++) turned[EMPTIED] += before->q[id].count && after->q[id].count == 0 && after->start[id] != 0;
 }
 
 /* ---- the calls, each against the model; the states come back for the next call */
@@ -144,24 +230,34 @@ static bool intact(const uint64_t edge[2]) { return edge[0] == 0x0123456789abcde
 #define ANSWER(type) struct { uint64_t before[2]; struct type got; uint64_t behind[2]; } \
     a = {{0x0123456789abcdefu, 0x0123456789abcdefu}, {0}, {0x0123456789abcdefu, 0x0123456789abcdefu}}
 
-static uint32_t load(struct keshgurvat_sender *state, struct keshgurvat_settings s, size_t room, size_t id, size_t n, unsigned long t) {
+static uint32_t load_bytes(struct keshgurvat_sender *state, struct keshgurvat_settings s, size_t room, size_t id, const uint8_t *unit, size_t n,
+                           unsigned long t) {
     struct keshgurvat_sender want = *state;
-    lend(&input, NULL, n);
+    bool both = front_taken(state);
+    lend(&input, unit, n);
     ANSWER(keshgurvat_loaded);
     uint32_t number = model_load(&want, &s, store.model, room, id, input.model, n);
     a.got = keshgurvat_load(*state, s, store.ours, room, id, input.ours, n);
     check(a.got.number == number && same_sender(&a.got.next, &want, number != 0) && settled(&input) && settled(&store)
               && intact(a.before) && intact(a.behind), "load", t);
+    if (both) load_front(&a.got, &s, room, id, n, t);
+    if (number == 0) saw_load(state, id, n);
     saw(LOAD, a.got.number);
     *state = a.got.next;
     return a.got.number;
 }
+static uint32_t load(struct keshgurvat_sender *state, struct keshgurvat_settings s, size_t room, size_t id, size_t n, unsigned long t) {
+    return load_bytes(state, s, room, id, NULL, n, t);
+}
 
+/* the model has the store as const, so a byte of it that the library changed shows in settled */
 static struct keshgurvat_framed frame(struct keshgurvat_sender *state, struct keshgurvat_settings s, size_t room, size_t size,
                                       unsigned long t) {
     struct keshgurvat_sender want = *state;
     struct model_counts c;
+    bool both = front_taken(state);
     lend(&output, NULL, size);
+    memcpy(front.out, output.model, size);
     ANSWER(keshgurvat_framed);
     uint32_t number = model_frame(&want, &s, store.model, room, output.model, size, &c);
     a.got = keshgurvat_frame(*state, s, store.ours, room, output.ours, size);
@@ -169,6 +265,8 @@ static struct keshgurvat_framed frame(struct keshgurvat_sender *state, struct ke
               && intact(a.before) && intact(a.behind), "frame", t);
     check(a.got.packets.a == c.packets[0] && a.got.packets.b == c.packets[1] && a.got.packets.c == c.packets[2]
               && a.got.spares == c.spares && a.got.filler == c.filler, "frame's counts", t);
+    if (both) frame_front(&a.got, &s, room, size, t);
+    if (number == 0) saw_frame(state, &want, &s);
     saw(FRAME, a.got.number);
     *state = a.got.next;
     return a.got;
@@ -209,6 +307,11 @@ static struct keshgurvat_settings some_settings(size_t p) { /* within the limits
     }
     return (struct keshgurvat_settings){p, n, {s[0], s[1], s[2]}, {m[0], m[1], m[2]}};
 }
+static struct keshgurvat_settings run_settings(size_t p, bool large) {
+    struct keshgurvat_settings s = some_settings(p);
+    while (s.n > 40 && !large) s = some_settings(p);
+    return s;
+}
 static void spoil_settings(struct keshgurvat_settings *s) {
     static const size_t odd[] = {0, 1, 2047, 2048, SIZE_MAX, SIZE_MAX - 1, SIZE_MAX / 2 + 1};
     size_t *field[] = {&s->n, &s->share.a, &s->share.b, &s->share.c, &s->ceiling.a, &s->ceiling.b, &s->ceiling.c};
@@ -226,13 +329,17 @@ static bool counts_right(const struct keshgurvat_sender *t, size_t p) {
         if (t->waiting[i] != model_waiting(&t->q[i], p)) return false;
     return true;
 }
+static size_t some_start(void) {
+    static const size_t edge[] = {0, 1, 2048, 4090, 4095};
+    return one_in(3) ? ONE_OF(edge) : below(4096);
+}
 static struct keshgurvat_sender some_sender(size_t p) { /* any that is not 17, with rubbish in the places that say nothing */
     struct keshgurvat_sender t;
+    any_bytes((uint8_t *)&t, sizeof t);
     for (int i = 0; i < 3; i++) {
         struct keshgurvat_queue *q = &t.q[i];
         size_t free = 4096, most = one_in(3) ? 4096 : 1 + below(900);
-        for (int k = 0; k < 8; k++) q->left[k] = (uint16_t)draw();
-        q->sent = 0, q->count = 0;
+        q->sent = 0, q->count = 0, t.start[i] = (uint16_t)some_start();
         for (size_t want = below(9); q->count < want && free; q->count++) {
             q->left[q->count] = (uint16_t)(1 + below(most < free ? most : free));
             free -= q->left[q->count];
@@ -241,14 +348,14 @@ static struct keshgurvat_sender some_sender(size_t p) { /* any that is not 17, w
         if (q->count && one_in(2)) q->sent = p * below((4096u - q->left[0]) / p + 1);
     }
     t.turn = below(3);
-    for (int i = 0; i < 4; i++) t.index[i] = (uint8_t)below(8), t.padding[i] = (uint8_t)draw();
+    for (int i = 0; i < 4; i++) t.index[i] = (uint8_t)below(8);
     count_up(&t, p);
     return t;
 }
 static void spoil_sender(struct keshgurvat_sender *t, size_t p) { /* with right counts, so that they are not why it is refused */
     struct keshgurvat_queue *q = &t->q[below(3)];
     size_t at = q->count ? below(q->count) : 0;
-    switch (below(10)) {
+    switch (below(11)) {
     case 0: q->count = one_in(2) ? 9 : SIZE_MAX; break;
     case 1: q->left[at] = 0; break;
     case 2: q->left[at] = one_in(2) ? 4097 : 65535; break;
@@ -258,6 +365,7 @@ static void spoil_sender(struct keshgurvat_sender *t, size_t p) { /* with right 
     case 6: q->sent = one_in(2) ? SIZE_MAX : SIZE_MAX / p * p; break;
     case 7: t->turn = one_in(2) ? 3 : SIZE_MAX; break;
     case 8: t->index[below(4)] = one_in(2) ? 8 : 255; break;
+    case 9: t->start[below(3)] = one_in(2) ? 4096 : 65535; break;
     default: q->count = 0, q->sent = p;
     }
     count_up(t, p);
@@ -416,7 +524,7 @@ static void test_waiting(void) {
 static void test_changes(unsigned long t) {
     size_t p = some_p();
     struct keshgurvat_sender state = keshgurvat_sender_fresh();
-    lend(&store, NULL, 12288);
+    lend(&store, NULL, 12288), front_take(&state, true);
     for (int step = 0; step < 60; step++) {
         size_t to = one_in(2) ? p : one_in(2) ? some_p() : p > 1 && one_in(2) ? p - 1 : p < 255 ? p + 1 : p;
         struct keshgurvat_settings s = some_settings(to);
@@ -429,6 +537,176 @@ static void test_changes(unsigned long t) {
         check(counts_right(&state, number == 17 ? p : to), "the counts after it", t);
         if (to != p) changes[empty ? EMPTY : !right ? UNEQUAL : sent ? EQUAL : EQUAL_SENT]++;
         if (number != 17) p = to;
+    }
+    front.running = false;
+}
+
+/* E9 of 02. A start over 4,095 in any queue, one call: 13 if the settings are refused, else 17, whatever else is wrong. */
+static void test_starts(void) {
+    for (unsigned long t = 0; t < 4000; t++) {
+        size_t p = some_p(), id = below(3), to = below(3);
+        enum stray stray = (enum stray)(t / 2 % STRAYS);
+        enum with with = (enum with)below(WITHS);
+        struct keshgurvat_settings s = some_settings(p);
+        struct keshgurvat_sender state = some_sender(p);
+        state.start[id] = (uint16_t)(stray == FIRST_OVER ? 4096 : stray == LAST_OVER ? 65535 : 4096 + below(61440));
+        if (with == NO_UNITS) state.q[id].count = state.q[id].sent = state.waiting[id] = 0;
+        if (with == OTHER_QUEUE) to = (id + 1 + below(2)) % 3;
+        if (with == WITH_SETTINGS) spoil_settings(&s);
+        if (with == WITH_COUNT) state.waiting[below(3)]++;
+        if (with == WITH_UNITS) state.q[below(3)].count = 9;
+        size_t room = with == WITH_STORE ? 12287 : 12288;
+        uint32_t refused = model_settings(&s) ? 13 : 17;
+        lend(&store, NULL, room);
+        uint32_t number = t % 2 ? load(&state, s, room, to, some_unit(), t) : frame(&state, s, room, some_size(&s), t).number;
+        check(number == refused, "a start over 4,095", t);
+        strays[t % 2 == 0][stray] += refused == 17;
+        withs[with] += refused == (with == WITH_SETTINGS ? 13 : 17);
+    }
+}
+
+/* Each of these starts in each queue, which has two units or none: a load of all that is free in a queue, or a frame. */
+static void test_start_edges(void) {
+    static const uint16_t starts[] = {0, 1, 2048, 4090, 4095, 4096, 65535};
+    const struct keshgurvat_settings s = {10, 5, {1, 1, 1}, {5, 5, 5}};
+    for (size_t i = 0; i < 7 * 3 * 4 * 2; i++) {
+        size_t id = i % 3, to = i / 3 % 4, units = i / 12 % 2;
+        uint16_t start = starts[i / 24];
+        struct keshgurvat_sender state = keshgurvat_sender_fresh();
+        if (units) state.q[id] = (struct keshgurvat_queue){{15, 305}, 2, 10}, state.waiting[id] = 2 + 31;
+        state.start[id] = start;
+        lend(&store, NULL, 12288);
+        uint32_t number = to < 3 ? load(&state, s, 12288, to, units && to == id ? 4096 - 320 : 4096, i) : frame(&state, s, 12288, 65, i).number;
+        size_t sent = to == 3 && units ? 15 + 30 : 0; /* five packets, of which the second has five bytes */
+        check(number == (start > 4095 ? 17 : 0), "a start at the limits", i);
+        check(state.start[id] == (start > 4095 ? start : (start + sent) % 4096), "the start after it", i);
+    }
+}
+
+/* The ring worked out by hand. First p 4, three packets, and a unit of ten bytes that begins six bytes before the end. */
+static void test_ring_bytes(void) {
+    static const uint8_t unit[10] = {1, 2, 3, 4, 5, 6, 7, 8, 9, 10}, want[21] = {0x80, 1, 2, 3, 4, 0xc1, 0x20, 1, 5, 6, 7, 8, 0x52, 0xd8,
+                                                                              0x4a, 2, 9, 10, 0, 0x25, 7};
+    const struct keshgurvat_settings s = {4, 3, {3, 0, 0}, {3, 3, 3}};
+    struct keshgurvat_sender state = keshgurvat_sender_fresh();
+    state.start[0] = 4090;
+    lend(&store, NULL, 12288);
+    check(load_bytes(&state, s, 12288, 0, unit, 10, 0) == 0 && state.start[0] == 4090, "ten bytes loaded at 4,090", 0);
+    check(memcmp(store.ours + 4090, unit, 6) == 0 && memcmp(store.ours, unit + 6, 4) == 0, "ten bytes at 4,090 to 3", 0);
+    check(frame(&state, s, 12288, 21, 0).number == 0 && memcmp(output.ours, want, 21) == 0, "ten bytes sent from 4,090", 0);
+    check(state.start[0] == 4 && state.q[0].count == 0, "empty, with a start of 4", 0);
+    check(memcmp(store.ours + 4090, unit, 6) == 0 && memcmp(store.ours, unit + 6, 4) == 0, "ten bytes as they were", 0);
+
+    static const struct { size_t length, start, unsent; } run[] = {{4096, 3060, 1036}, {3000, 1785, 1215}, {1000, 4000, 0}, {97, 1, 0}};
+    for (size_t i = 0; i < 3 * 4; i++) { /* p 255, twelve packets, a frame after each load */
+        size_t id = i / 4, k = i % 4;
+        const struct keshgurvat_settings one = {255, 12, {id == 0 ? 12 : 0, id == 1 ? 12 : 0, id == 2 ? 12 : 0}, {12, 12, 12}};
+        if (k == 0) state = keshgurvat_sender_fresh(), lend(&store, NULL, 12288), front_take(&state, true);
+        check(load(&state, one, 12288, id, run[k].length, i) == 0, "a load of the run by hand", i);
+        check(frame(&state, one, 12288, 3096, i).number == 0 && state.start[id] == run[k].start
+                  && model_unsent(&state.q[id]) == run[k].unsent, "a frame of the run by hand", i);
+    }
+    front.running = false;
+}
+
+/* A packet whose useful bytes wrap at each of them: a unit that begins fewer than p bytes before the end. Its bytes come out one behind the
+   other, and the ring then begins behind them. */
+static void across(size_t p, size_t start, size_t n, size_t id, unsigned long t) {
+    const struct keshgurvat_settings s = {p, 2, {0, 0, 0}, {2, 2, 2}};
+    size_t first = n < p ? n : p;
+    struct keshgurvat_sender state = keshgurvat_sender_fresh();
+    state.start[id] = (uint16_t)start;
+    lend(&store, NULL, 12288);
+    check(load(&state, s, 12288, id, n, t) == 0, "a unit at the end", t);
+    check(frame(&state, s, 12288, 2 * (p + 3), t).filler == (n <= p), "its packets", t);
+    check(memcmp(output.ours + 1 + (n < p), input.model, first) == 0, "its first packet", t);
+    check(n <= p || memcmp(output.ours + p + 5, input.model + p, n - p) == 0, "its second packet", t);
+    check(state.start[id] == (start + n) % 4096 && state.q[id].count == 0, "the start behind it", t);
+}
+static void test_across(void) {
+    static const size_t all[] = {4, 127, 255};
+    for (size_t i = 0; i < 3; i++)
+        for (size_t p = all[i], start = 4097 - p; start < 4096; start++) {
+            unsigned long t = 4096 * i + start;
+            for (size_t id = 0; id < 3; id++) across(p, start, p, id, t);
+            across(p, start, p - 1 - start % 2, t % 3, t);            /* a padded packet */
+            across(p, start, p + 1 + start % (p - 1), t / 3 % 3, t);  /* a whole one and a padded one */
+            across(p, start, 4096 - start, t / 9 % 3, t);             /* one that just does not wrap */
+        }
+}
+
+/* A full ring that begins anywhere: no byte more goes in, until some are sent, and then just as many; all of it comes out, and the queue that
+   ran empty keeps its start. */
+static void test_full(void) {
+    static const uint16_t starts[] = {1, 255, 2048, 4090, 4095};
+    static uint8_t unit[4096], back[4096];
+    const struct keshgurvat_settings s = {255, 1, {0, 0, 0}, {1, 1, 1}}, more = {255, 17, {0, 0, 0}, {17, 17, 17}};
+    for (size_t i = 0; i < 5 * 3; i++) {
+        size_t id = i % 3, start = starts[i / 3];
+        struct keshgurvat_sender state = keshgurvat_sender_fresh();
+        state.start[id] = (uint16_t)start;
+        lend(&store, NULL, 12288), front_take(&state, true), any_bytes(unit, 4096);
+        check(load_bytes(&state, s, 12288, id, unit, 4096, i) == 0, "a unit of 4,096", i);
+        check(store.ours[4096 * id + start] == unit[0] && store.ours[4096 * id + start - 1] == unit[4095]
+                  && store.ours[4096 * id] == unit[4096 - start], "a ring all round", i);
+        check(load(&state, s, 12288, id, 1, i) == 15, "a byte more", i);
+        check(frame(&state, s, 12288, 258, i).number == 0 && state.start[id] == (start + 255) % 4096, "a packet out of a full ring", i);
+        memcpy(back, output.ours + 1, 255);
+        check(load(&state, s, 12288, id, 256, i) == 15 && load(&state, s, 12288, id, 255, i) == 0, "just as many", i);
+        check(load(&state, s, 12288, id, 1, i) == 15, "full again", i);
+        check(frame(&state, more, 12288, 17 * 258, i).filler == 0, "the whole ring", i);
+        for (size_t k = 0; k < 16; k++) memcpy(back + 255 * (k + 1), output.ours + 258 * k + 1 + (k == 15), k == 15 ? 16 : 255); /* 15 is padded */
+        check(memcmp(back, unit, 4096) == 0, "a unit of 4,096 comes out", i);
+        check(state.q[id].count == 0 && state.start[id] == (start + 255) % 4096, "4,351 bytes on", i);
+        check(frame(&state, more, 12288, 17 * 258, i).filler == 17 && state.start[id] == (start + 255) % 4096, "empty, its start kept", i);
+        check(load(&state, s, 12288, id, 1, i) == 0 && store.ours[4096 * id + (start + 255) % 4096] == input.model[0], "and used", i);
+    }
+    front.running = false;
+}
+
+/* a unit of any length, or one that reaches the end of its queue's part, or that fills the queue */
+static uint32_t load_ring(struct keshgurvat_sender *state, struct keshgurvat_settings s, unsigned long t) {
+    size_t id = below(3), unsent = unsent_of(&state->q[id]), free = 4096 - unsent, to_end = 4096 - (state->start[id] + unsent) % 4096;
+    size_t n = one_in(5) ? free : one_in(2) && to_end <= free ? to_end : one_in(3) ? below(free + 1) : below(700);
+    return load(state, s, 12288, id, n ? n : 1, t);
+}
+
+/* Sixty loads and frames from a fresh sender, in both layouts, whose stores have another content at first; where all queues are empty, or by
+   chance, p changes. */
+static void test_ring_run(unsigned long t) {
+    size_t p = some_p();
+    struct keshgurvat_sender state = keshgurvat_sender_fresh();
+    lend(&store, NULL, 12288), front_take(&state, true);
+    for (int step = 0; step < 60; step++) {
+        bool empty = state.q[0].count + state.q[1].count + state.q[2].count == 0;
+        size_t to = (empty && one_in(2)) || one_in(20) ? some_p() : p;
+        struct keshgurvat_settings s = run_settings(to, false);
+        uint32_t number = one_in(2) ? load_ring(&state, s, t) : frame(&state, s, 12288, s.n * (to + 3), t).number;
+        check(!astray(&state), "no start over 4,095 in a run", t);
+        if (number != 17) p = to;
+    }
+    front.running = false;
+}
+
+/* A frame of a store that cannot be written to: the bytes of a constant. A library that writes there ends the program. */
+#define BYTES_4(i) (uint8_t)(57 * (i)), (uint8_t)(57 * ((i) + 1)), (uint8_t)(57 * ((i) + 2)), (uint8_t)(57 * ((i) + 3))
+#define BYTES_16(i) BYTES_4(i), BYTES_4((i) + 4), BYTES_4((i) + 8), BYTES_4((i) + 12)
+#define BYTES_64(i) BYTES_16(i), BYTES_16((i) + 16), BYTES_16((i) + 32), BYTES_16((i) + 48)
+#define BYTES_256(i) BYTES_64(i), BYTES_64((i) + 64), BYTES_64((i) + 128), BYTES_64((i) + 192)
+#define BYTES_1024(i) BYTES_256(i), BYTES_256((i) + 256), BYTES_256((i) + 512), BYTES_256((i) + 768)
+#define BYTES_4096(i) BYTES_1024(i), BYTES_1024((i) + 1024), BYTES_1024((i) + 2048), BYTES_1024((i) + 3072)
+static const uint8_t fixed[12288] = {BYTES_4096(0), BYTES_4096(4096 + 1), BYTES_4096(8192 + 2)};
+static void test_fixed_store(void) {
+    for (unsigned long t = 0; t < 300; t++) {
+        size_t p = some_p();
+        struct keshgurvat_settings s = some_settings(p);
+        struct keshgurvat_sender state = some_sender(p), want = state;
+        struct model_counts c;
+        if (one_in(8)) spoil_sender(&state, p), want = state;
+        lend(&output, NULL, s.n * (p + 3));
+        uint32_t number = model_frame(&want, &s, fixed, 12288, output.model, output.length, &c);
+        struct keshgurvat_framed got = keshgurvat_frame(state, s, fixed, 12288, output.ours, output.length);
+        check(got.number == number && same_sender(&got.next, &want, number != 0) && settled(&output), "a store that is constant", t);
     }
 }
 
@@ -524,18 +802,13 @@ static void test_dropped(void) {
 /* Units of a fresh sender, p unchanged, every packet to a fresh receiver: they come back per id in order, byte for byte. No call meets 17,
    and no packet drops a byte. Where it is `lossy` some packets are lost, and only the model says what comes back. */
 static struct { uint8_t bytes[4096]; size_t length; } sent_units[3][16]; /* the last 16 of each queue, by number */
-static struct keshgurvat_settings run_settings(size_t p, bool large) {
-    struct keshgurvat_settings s = some_settings(p);
-    while (s.n > 40 && !large) s = some_settings(p);
-    return s;
-}
 static void test_run(unsigned long t, bool lossy, bool large) {
     size_t p = some_p(), given[3] = {0, 0, 0}, back[3] = {0, 0, 0};
     struct keshgurvat_sender state = keshgurvat_sender_fresh();
     struct keshgurvat_receiver r = keshgurvat_receiver_fresh();
     struct keshgurvat_settings s = run_settings(p, large);
     bool right = true, no_17 = true, whole = true, kept = true;
-    lend(&store, NULL, 12288), lend(&buffer, NULL, 16384);
+    lend(&store, NULL, 12288), lend(&buffer, NULL, 16384), front_take(&state, true);
     for (int step = 0; step < 50; step++) {
         for (size_t k = below(4); k; k--) {
             size_t id = one_in(20) ? 3 : below(3), n = one_in(5) ? below(4098) : 1 + below(4 * p);
@@ -558,6 +831,7 @@ static void test_run(unsigned long t, bool lossy, bool large) {
                      && memcmp(sent_units[d.id][k % 16].bytes, buffer.ours + 4096 * d.id, d.length) == 0;
         }
     }
+    front.running = false;
     for (int id = 0; id < 3 && !lossy; id++) right &= back[id] + state.q[id].count == given[id];
     check(right, "units come back", t), check(no_17, "a run meets no 17", t), check(whole, "a run in order drops nothing", t);
     check(kept, "a run keeps the counts", t);
@@ -598,13 +872,20 @@ int main(int argc, char **argv) {
     test_sender_calls();
     test_counts();
     test_waiting();
+    test_starts();
+    test_start_edges();
+    test_ring_bytes();
+    test_across();
+    test_full();
     test_receiver_calls();
     test_dropped();
     for (unsigned long t = 0; t < 40; t++) test_receiver_run(t);
     for (unsigned long t = 0; t < 24; t++) test_run(t, t % 4 == 3, t < 2);
     for (unsigned long t = 0; t < 80; t++) test_changes(t);
+    for (unsigned long t = 0; t < 60; t++) test_ring_run(t);
     test_seen();
     test_often();
+    if (failed == 0) test_fixed_store();
     printf("%lu passed, %lu failed\n", passed, failed);
     return failed != 0 || passed == 0;
 }

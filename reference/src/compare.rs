@@ -110,11 +110,12 @@ impl Counts {
         line
     }
 
-    /// What E1 and E11 were held against; none where there was no run.
+    /// What E1, E9 and E11 were held against; none where there was no run.
     fn added_line(&self) -> Option<String> {
         let Added {
             packets,
             counts,
+            layouts,
             frames,
             stretches,
             ..
@@ -122,7 +123,7 @@ impl Counts {
         (packets + counts + frames > 0).then(|| {
             format!(
                 "added up: the bytes of {packets} packets; the packets waiting after {counts} calls at a sender; \
-                 for each two queues that could both take every spare, {frames} frames, {stretches} times two or \
+                 {layouts} of its calls in both layouts of the store; for each two queues that could both take every spare, {frames} frames, {stretches} times two or \
                  more in a row"
             )
         })

@@ -7,7 +7,7 @@ use crate::description::Description;
 use crate::fac::{self, Fac};
 use crate::reader::Reader;
 use crate::receiver::Receiver;
-use crate::sender::{Sender, Settings};
+use crate::sender::{Queue, Sender, Settings};
 use crate::show;
 
 /// What is done with each field. None where a body is malformed.
@@ -68,6 +68,7 @@ pub trait Fields {
             self.number("units", &mut queue.units)?;
             self.number("sent", &mut queue.sent)?;
             self.short("waiting", &mut queue.waiting)?;
+            self.short("start", &mut queue.start)?;
             for left in &mut queue.left {
                 self.short("left", left)?;
             }
@@ -250,9 +251,15 @@ impl Fields for Vec<String> {
 
     fn sender(&mut self, field: &mut Sender) -> Option<()> {
         for (id, queue) in field.queues.iter().enumerate() {
-            let (units, sent, waiting, left) = (queue.units, queue.sent, queue.waiting, queue.left);
+            let Queue {
+                units,
+                sent,
+                waiting,
+                start,
+                left,
+            } = queue;
             self.push(format!(
-                "queue {id}: units {units}, sent {sent}, waiting {waiting}, left {left:?}"
+                "queue {id}: units {units}, sent {sent}, waiting {waiting}, start {start}, left {left:?}"
             ));
         }
         let (turn, indexes) = (field.turn, field.indexes);

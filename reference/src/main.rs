@@ -1,8 +1,8 @@
 //! The second, independent program (document 01, end of "Marked examples").
 //!
 //! It answers cases from definitions written from document 01 and the standards alone: plain, bit by
-//! bit, and not fast. It also makes the cases, adds up what document 02, E1 and E11, claims of the runs in them,
-//! and compares another program's answers with its own. The framing of cases and answers is set out in
+//! bit, and not fast. It also makes the cases, adds up what document 02, E1, E9 and E11, claims of the runs in
+//! them, and compares another program's answers with its own. The framing of cases and answers is set out in
 //! docs/CASES.md. This file is the command line only.
 
 mod answer;
@@ -22,6 +22,7 @@ mod fac;
 mod faults;
 mod fields;
 mod frames;
+mod fronts;
 mod generate;
 mod items;
 mod layout_text;
@@ -34,6 +35,7 @@ mod reader;
 mod receiver;
 mod recording;
 mod refusal;
+mod rings;
 mod runs;
 mod sender;
 mod show;

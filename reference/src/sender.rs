@@ -1,5 +1,5 @@
 //! The sender of the shared stream: its settings, the hand-out of a frame's packets, and the three queues
-//! (document 01, "Packets, queues and receiver"; "Numbers given back": 13, 14, 15 and 17; document 02, E1).
+//! (document 01, "Packets, queues and receiver"; "Numbers given back": 13, 14, 15 and 17; document 02, E1 and E9).
 
 use crate::output;
 use crate::packet::{self, Header, FRAMING, LARGEST_P};
@@ -101,6 +101,9 @@ pub struct Queue {
     pub sent: u64,
     /// The stored count of waiting packets.
     pub waiting: u16,
+    /// Where the unsent bytes begin in the queue's bytes of the store, which are a ring: byte i of them stands at
+    /// start + i modulo 4,096.
+    pub start: u16,
     /// Bytes left of each unit.
     pub left: [u16; UNITS],
 }
@@ -133,11 +136,19 @@ impl Queue {
         refuse(17, self.unsent() > QUEUE_BYTES)?;
         refuse(17, !self.sent.is_multiple_of(p))?;
         refuse(17, self.units == 0 && self.sent > 0)?;
-        refuse(17, u64::from(self.waiting) != self.summed(p))
+        refuse(17, u64::from(self.waiting) != self.summed(p))?;
+        refuse(17, usize::from(self.start) >= QUEUE_BYTES)
+    }
+
+    /// Puts a unit behind the others; there is room for it.
+    pub fn push(&mut self, p: u64, length: usize) {
+        self.left[self.units as usize] = length as u16;
+        self.units += 1;
+        self.waiting += length.div_ceil(p as usize) as u16;
     }
 
     /// Takes one packet off the first unit: its first flag, its last flag, its useful bytes.
-    fn take_packet(&mut self, p: u64) -> (bool, bool, usize) {
+    pub fn take_packet(&mut self, p: u64) -> (bool, bool, usize) {
         let left = u64::from(self.left[0]);
         let useful = left.min(p);
         let (first, last) = (self.sent == 0, useful == left);
@@ -177,11 +188,11 @@ impl Sender {
         self.queues.map(|queue| u64::from(queue.waiting))
     }
 
-    /// Puts a unit behind the bytes of its queue that are not yet sent.
-    pub fn load(
-        &mut self,
+    /// What a load is refused for. No byte of the store is looked at.
+    pub fn check_load(
+        &self,
         settings: &Settings,
-        store: &mut [u8],
+        store: &[u8],
         id: u64,
         unit: &[u8],
     ) -> Result<(), Refusal> {
@@ -191,57 +202,79 @@ impl Sender {
         refuse(1, unit.len() > LONGEST_INPUT)?;
         refuse(14, unit.is_empty() || unit.len() > QUEUE_BYTES)?;
         refuse(14, id >= QUEUES as u64)?;
-        let queue = &mut self.queues[id as usize];
+        let queue = &self.queues[id as usize];
         refuse(15, queue.unsent() + unit.len() > QUEUE_BYTES)?;
-        refuse(15, queue.units >= UNITS as u64)?;
-        let place = QUEUE_BYTES * id as usize + queue.unsent();
-        store[place..place + unit.len()].copy_from_slice(unit);
-        queue.left[queue.units as usize] = unit.len() as u16;
-        queue.units += 1;
-        queue.waiting += unit.len().div_ceil(settings.p as usize) as u16;
-        Ok(())
+        refuse(15, queue.units >= UNITS as u64)
     }
 
-    /// Writes the next frame to the front of `output`, and moves what is left of each queue to the front of
-    /// its bytes in the store.
-    pub fn frame(
+    /// What a frame is refused for before it is made.
+    pub fn check_frame(&self, settings: &Settings, store: &[u8]) -> Result<(), Refusal> {
+        settings.check()?;
+        self.check(settings.p)?;
+        refuse(1, store.len() != STORE_BYTES)
+    }
+
+    /// Puts a unit behind the bytes of its queue that are not yet sent, around the ring.
+    pub fn load(
         &mut self,
         settings: &Settings,
         store: &mut [u8],
+        id: u64,
+        unit: &[u8],
+    ) -> Result<(), Refusal> {
+        self.check_load(settings, store, id, unit)?;
+        let queue = &mut self.queues[id as usize];
+        let ring = &mut store[QUEUE_BYTES * id as usize..][..QUEUE_BYTES];
+        let end = usize::from(queue.start) + queue.unsent();
+        for (place, byte) in unit.iter().enumerate() {
+            ring[(end + place) % QUEUE_BYTES] = *byte;
+        }
+        queue.push(settings.p, unit.len());
+        Ok(())
+    }
+
+    /// Writes the next frame to the front of `output`. Each start moves on by the bytes that the frame takes; also
+    /// that of a queue which empties.
+    pub fn frame(
+        &mut self,
+        settings: &Settings,
+        store: &[u8],
         output: &mut [u8],
     ) -> Result<HandOut, Refusal> {
-        settings.check()?;
-        self.check(settings.p)?;
-        refuse(1, store.len() != STORE_BYTES)?;
+        self.check_frame(settings, store)?;
         let handed = hand_out(settings, self.waiting(), self.turn)?;
         let mut next = *self;
         let mut frame = Vec::new();
         for id in 0..QUEUES {
-            let mut place = QUEUE_BYTES * id;
+            let ring = &store[QUEUE_BYTES * id..][..QUEUE_BYTES];
             for _ in 0..handed.packets[id] {
-                let (first, last, useful) = next.queues[id].take_packet(settings.p);
-                let useful = &store[place..place + useful];
-                frame.extend(next.packet(settings.p, first, last, id, useful)?);
-                place += useful.len();
+                let queue = &mut next.queues[id];
+                let start = usize::from(queue.start);
+                let (first, last, count) = queue.take_packet(settings.p);
+                queue.start = ((start + count) % QUEUE_BYTES) as u16;
+                let places = (start..start + count).map(|place| place % QUEUE_BYTES);
+                let useful: Vec<u8> = places.map(|place| ring[place]).collect();
+                frame.extend(next.packet(settings.p, first, last, id, &useful)?);
             }
         }
-        for _ in 0..handed.filler {
-            frame.extend(next.packet(settings.p, true, true, FILLER, &[])?);
-        }
+        frame.extend(next.filler(settings.p, handed.filler)?);
         next.turn = handed.turn;
         output::write(&frame, output)?;
-        for id in 0..QUEUES {
-            let front = QUEUE_BYTES * id;
-            let unsent = next.queues[id].unsent();
-            let sent = self.queues[id].unsent() - unsent;
-            store.copy_within(front + sent..front + sent + unsent, front);
-        }
         *self = next;
         Ok(handed)
     }
 
+    /// So many packets of filler.
+    pub fn filler(&mut self, p: u64, count: u64) -> Result<Vec<u8>, Refusal> {
+        let mut bytes = Vec::new();
+        for _ in 0..count {
+            bytes.extend(self.packet(p, true, true, FILLER, &[])?);
+        }
+        Ok(bytes)
+    }
+
     /// The id's next packet; moves its index on.
-    fn packet(
+    pub fn packet(
         &mut self,
         p: u64,
         first: bool,
@@ -388,48 +421,13 @@ mod tests {
             indexes: [0, 2, 0, 1],
             ..Sender::default()
         };
+        after.queues[1].start = 6;
         assert_eq!(run.sender, after);
         let out = run.frame(&settings, &mut output);
         assert_eq!(out, handed([0, 0, 0], &[], 3, 2));
         assert_eq!([output[0], output[7], output[14]], [0xF9, 0xFA, 0xFB]);
         after.indexes[3] = 4;
         assert_eq!(run.sender, after);
-        assert_eq!(run.added().differences, [""; 0]);
-    }
-
-    /// Five bytes, two of them sent: the three others move to the front and no byte behind them changes.
-    #[test]
-    fn the_rest_moves_to_the_front() {
-        let settings = small(2, 1);
-        let mut run = Sending::new(Sender::default(), vec![7; STORE_BYTES]);
-        for unit in [&[1, 2, 3][..], &[4, 5]] {
-            assert_eq!(run.load(&settings, 2, unit), Ok(()));
-        }
-        let mut output = [9; 5];
-        let queue = |units, sent, waiting, left| Queue {
-            units,
-            sent,
-            waiting,
-            left,
-        };
-        for (front, queue, header) in [
-            (
-                [3, 4, 5, 4, 5, 7],
-                queue(2, 2, 2, [1, 2, 0, 0, 0, 0, 0, 0]),
-                0xA0,
-            ),
-            (
-                [4, 5, 5, 4, 5, 7],
-                queue(1, 0, 1, [2, 0, 0, 0, 0, 0, 0, 0]),
-                0x69,
-            ),
-            ([4, 5, 5, 4, 5, 7], Queue::default(), 0xE2),
-        ] {
-            assert!(run.frame(&settings, &mut output).is_ok());
-            assert_eq!(run.store[8_192..8_198], front);
-            assert_eq!(run.sender.queues[2], queue);
-            assert_eq!(output[0], header);
-        }
         assert_eq!(run.added().differences, [""; 0]);
     }
 
@@ -463,6 +461,7 @@ mod tests {
             units: 2,
             sent: 20,
             waiting: 401,
+            start: 0,
             left: [5, 4_000, 0, 65_535, 0, 0, 0, 0],
         };
         assert_eq!(good.check(p), Ok(()));
@@ -470,6 +469,7 @@ mod tests {
             units: 8,
             sent: 3_580,
             waiting: 416,
+            start: 4_095,
             left: [512; 8],
         };
         assert_eq!(full.check(p), Ok(()));
@@ -494,6 +494,14 @@ mod tests {
             Queue {
                 left: [513, 512, 512, 512, 512, 512, 512, 512],
                 ..full
+            },
+            Queue {
+                start: 4_096,
+                ..full
+            },
+            Queue {
+                start: 65_535,
+                ..Queue::default()
             },
         ];
         for queue in broken {
@@ -575,9 +583,10 @@ mod tests {
                 }
             }
             for (id, received) in received.iter_mut().enumerate() {
-                let place = QUEUE_BYTES * id;
-                let unsent = run.sender.queues[id].unsent();
-                received.extend(&run.store[place..place + unsent]);
+                let queue = run.sender.queues[id];
+                let mut ring = run.store[QUEUE_BYTES * id..][..QUEUE_BYTES].to_vec();
+                ring.rotate_left(usize::from(queue.start));
+                received.extend(&ring[..queue.unsent()]);
             }
             assert_eq!(loaded, received);
             assert_eq!(run.added().differences, [""; 0]);

@@ -221,7 +221,7 @@ mod tests {
     use super::*;
     use crate::random::Random;
     use crate::runs::{Added, Sending};
-    use crate::sender::hand_out;
+    use crate::sender::{hand_out, Sender, STORE_BYTES};
 
     fn settings(packets: u64, shares: [u64; 3], ceilings: [u64; 3]) -> Settings {
         Settings {
@@ -358,8 +358,11 @@ mod tests {
 
     /// A run of a sender from any turn: settings that change, and loads and refused calls between the frames.
     fn busy(random: &mut Random) -> Added {
-        let mut run = Sending::fresh();
-        run.sender.turn = random.below(3);
+        let sender = Sender {
+            turn: random.below(3),
+            ..Sender::default()
+        };
+        let mut run = Sending::new(sender, vec![0; STORE_BYTES]);
         let mut now = drawn(random);
         for _ in 0..80 {
             let length = random.pick(&[1, 4, 40, 400]);

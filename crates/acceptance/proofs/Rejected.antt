@@ -7,15 +7,15 @@ use lib.ListN.{getD, replicate}
 use Rattle.laws.specs.Big.{bytesOf}
 use Rattle.laws.specs.Written.{written}
 use Rattle.dispersal.specs.Dispersal as dispersal
-use Rattle.hand.specs.Hand.{give, free, givenTo, firstFree, taker, giveOne, takers, spread, handOut, planFor, handFor}
+use Rattle.hand.specs.Hand.{givenTo, takers, spread, handOut, planFor, handFor}
 use Rattle.hand.specs.Settings.{unfit, settingsTests, settingsFor}
 use Rattle.hand.specs.declared.Settings.{Settings}
 use Rattle.hand.specs.declared.Three.{Three}
 use Rattle.queue.specs.Queue.{addUp, packets, unsent, waits, waiting, lengths, anyEmpty, anyOver, broken, noUnits, pushed}
 use Rattle.queue.specs.Stored.{miscounts}
-use Rattle.moves.specs.Moves.{pulled}
-use Rattle.packet.specs.Packet.{headOf, padded, dataOf, plainOf, sealed, encode, bodyOf, decode}
-use Rattle.row.specs.Row.{headLen, dropFirst, popped, packetAt, stepped, steps, outs}
+use Rattle.packet.specs.Packet.{headOf, dataOf, plainOf, sealed, encode, decode}
+use Rattle.ring.specs.Ring.{turned}
+use Rattle.row.specs.Row.{headLen, popped, packetAt, stepped, steps, outs}
 use Rattle.sender.specs.declared.Front.{Front}
 use Rattle.sender.specs.declared.Sender.{Sender}
 use Rattle.sender.specs.declared.Framed.{Framed}
@@ -23,7 +23,8 @@ use Rattle.sender.specs.declared.Loaded.{Loaded}
 use Rattle.sender.specs.State.{queueOf, fresh, brokenState, putQueue, waitingOf}
 use Rattle.sender.specs.Frame as frames
 use Rattle.sender.specs.Load as loads
-use Rattle.sender.specs.Kept.{kept, freshKept, miscounted, keptLoadTests, keptLoadNumber, keptLoadFor, keptFrameTests, keptFrameNumber, keptFramed, keptFrameFor, keptFrameOut, keptStoreAfter}
+use Rattle.sender.specs.Kept.{kept, freshKept, miscounted, keptLoadTests, keptFrameTests}
+use Rattle.sender.specs.Rings.{frontOf, freshRings, strayed, unrolled, ringLoadTests, ringLoadNumber, ringLoaded, ringLoadFor, ringFrameTests, ringFrameNumber, ringFramed, ringFrameFor, ringFrameOut}
 use Rattle.acceptance.specs.Wrong.{Disperser, Disperses, Copies, Loader, Loads, TakesNone, Framer, Frames, firstId, OnlyFiller, again, ThenFiller, ThenRefuses}
 
 -- a zero byte becomes 07
@@ -51,19 +52,22 @@ abbrev unit : List ℕ
 unit = 1 ∷ 2 ∷ []
 
 pub no-refuser : (f : Loader) → Loads f → TakesNone f → ⊥
-unfolding keptLoadFor keptLoadNumber keptLoadTests loads.loadTests loads.loaded loads.full settingsFor settingsTests unfit miscounted miscounts brokenState broken
-    freshKept fresh kept putQueue pushed anyEmpty anyOver lengths unsent waiting waits addUp
+unfolding ringLoadFor ringLoadNumber ringLoadTests ringLoaded keptLoadTests loads.loadTests loads.loaded loads.full settingsFor settingsTests unfit strayed
+    miscounted miscounts brokenState broken freshRings freshKept fresh kept putQueue pushed anyEmpty anyOver lengths unsent waiting waits addUp
 no-refuser f meets none =
     let same : _≡_ {A = ℕ} 1 0
-    = ap (λ (s : Front). queueOf s 0 .count) (sym (ap (λ (l : Loaded). l .next .front) (meets small freshKept 0 unit store .0)) ∙ none small freshKept 0 unit store) in
+    = ap (λ (s : Front). queueOf s 0 .count) (sym (ap (λ (l : Loaded). frontOf (l .next)) (meets small freshRings 0 unit store .0)) ∙ none small freshRings 0 unit store) in
     omega arith
 
 -- ---- a sender whose queue 0 has that unit, two packets long, and whose counts say so
 abbrev busy : Sender
 busy =
     record {
-      front = record { q = record { left = 2 ∷ replicate 7 0; count = 1; sent = 0 } ∷ noUnits ∷ noUnits ∷ []; turn = 0; index = replicate 4 0 };
+      q = record { left = 2 ∷ replicate 7 0; count = 1; sent = 0 } ∷ noUnits ∷ noUnits ∷ [];
+      turn = 0;
+      index = replicate 4 0;
       waiting = 2 ∷ 0 ∷ 0 ∷ [];
+      start = replicate 3 0;
     }
 
 abbrev frame : List ℕ
@@ -71,25 +75,21 @@ frame = replicate 4 0
 
 -- its first two frames, by computation
 abbrev left : Sender
-left = keptFrameFor small busy store frame .next
-
-abbrev left-store : List ℕ
-left-store = keptStoreAfter small busy store frame
+left = ringFrameFor small busy store frame .next
 
 abbrev left-frame : List ℕ
-left-frame = keptFrameOut small busy store frame
+left-frame = ringFrameOut small busy store frame
 
-two-frames : (keptFrameFor small busy store frame .number ≡ 0) × (firstId 1 left-frame ≡ 0)
-    × (keptFrameFor small left left-store left-frame .number ≡ 0) × (firstId 1 (keptFrameOut small left left-store left-frame) ≡ 0)
-unfolding keptFrameFor keptFrameNumber keptFrameTests keptFramed keptFrameOut keptStoreAfter kept miscounted miscounts
-    frames.frameTests frames.framed frames.frameBytes frames.framePackets frames.rowAt frames.nulls frames.handOf frames.endsOf frames.nextFrom frames.closedAll
-    frames.closed pulled settingsFor settingsTests unfit brokenState broken anyEmpty anyOver lengths unsent addUp waitingOf waiting waits packets
-    give free givenTo firstFree taker giveOne takers spread handOut planFor handFor written steps outs stepped packetAt headLen popped dropFirst
-    encode plainOf headOf dataOf sealed bytesOf decode
+two-frames : (ringFrameFor small busy store frame .number ≡ 0) × (firstId 1 left-frame ≡ 0)
+    × (ringFrameFor small left store left-frame .number ≡ 0) × (firstId 1 (ringFrameOut small left store left-frame) ≡ 0)
+unfolding ringFrameFor ringFrameNumber ringFrameTests ringFramed ringFrameOut unrolled turned strayed keptFrameTests kept miscounted miscounts
+    frames.frameTests frames.framed frames.frameBytes frames.framePackets frames.rowAt frames.nulls frames.handOf frames.endsOf frames.nextFrom
+    settingsFor settingsTests unfit brokenState broken anyEmpty anyOver lengths unsent addUp waitingOf waiting waits packets
+    givenTo takers spread handOut planFor handFor written steps outs stepped packetAt headLen popped encode plainOf headOf dataOf sealed bytesOf decode
 two-frames = (refl, refl, refl, refl)
 
 module _ (f : Framer) (meets : Frames f) where
-  answer : (s : Sender) → f small s store frame .0 ≡ keptFrameFor small s store frame
+  answer : (s : Sender) → f small s store frame .0 ≡ ringFrameFor small s store frame
   answer s = meets small s store frame .0
 
   served : f small busy store frame .0 .number ≡ 0
@@ -98,29 +98,27 @@ module _ (f : Framer) (meets : Frames f) where
   state-left : f small busy store frame .0 .next ≡ left
   state-left = ap (λ (a : Framed). a .next) (answer busy)
 
-  -- the next frame, handed what this one left
-  next-answer : again f small busy store frame .0 ≡ keptFrameFor small left left-store left-frame
+  -- the next frame, handed what this one left and the same store
+  next-answer : again f small busy store frame .0 ≡ ringFrameFor small left store left-frame
   next-answer =
       let m = meets small busy store frame in
       let a = state-left in
       let b = m .1 in
-      let c = m .2 in
-      let n = meets small (f small busy store frame .0 .next) (f small busy store frame .1) (f small busy store frame .2) .0 in
+      let n = meets small (f small busy store frame .0 .next) store (f small busy store frame .1) .0 in
       cc
 
-  next-output : again f small busy store frame .2 ≡ keptFrameOut small left left-store left-frame
+  next-output : again f small busy store frame .1 ≡ ringFrameOut small left store left-frame
   next-output =
       let m = meets small busy store frame in
       let a = state-left in
       let b = m .1 in
-      let c = m .2 in
-      let n = meets small (f small busy store frame .0 .next) (f small busy store frame .1) (f small busy store frame .2) .2 in
+      let n = meets small (f small busy store frame .0 .next) store (f small busy store frame .1) .1 in
       cc
 
   -- queue 0 gets its share of the first frame
   pub no-filler : OnlyFiller f → ⊥
   no-filler only =
-      let same : _≡_ {A = ℕ} 0 3 = sym (two-frames .1) ∙ ap (firstId 1) (sym (meets small busy store frame .2)) ∙ only small busy store frame served in
+      let same : _≡_ {A = ℕ} 0 3 = sym (two-frames .1) ∙ ap (firstId 1) (sym (meets small busy store frame .1)) ∙ only small busy store frame served in
       omega arith
 
   -- and of the second

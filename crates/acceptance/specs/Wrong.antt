@@ -22,7 +22,7 @@ use Rattle.sender.specs.declared.Framed.{Framed}
 use Rattle.sender.specs.declared.Loaded.{Loaded}
 use Rattle.sender.specs.declared.Sender.{Sender}
 use Rattle.sender.specs.State.{queueOf}
-use Rattle.sender.specs.Kept.{keptLoadFor, keptStoreFor, keptFrameFor, keptStoreAfter, keptFrameOut}
+use Rattle.sender.specs.Rings.{frontOf, ringLoadFor, ringStoreFor, ringFrameFor, ringFrameOut}
 
 -- ---- reading an MDI packet
 abbrev pub Reader : Type 0
@@ -73,19 +73,19 @@ Loader = Settings → Sender → ℕ → List ℕ → List ℕ → Loaded × Lis
 
 abbrev pub Loads : Loader → Type 0
 Loads f = (g : Settings) (s : Sender) (id : ℕ) (unit store : List ℕ) →
-    (f g s id unit store .0 ≡ keptLoadFor g s id unit store) × (f g s id unit store .1 ≡ keptStoreFor g s id unit store)
+    (f g s id unit store .0 ≡ ringLoadFor g s id unit store) × (f g s id unit store .1 ≡ ringStoreFor g s id unit store)
 
 -- a loader that takes no unit, whatever it counts
 abbrev pub TakesNone : Loader → Type 0
-TakesNone f = (g : Settings) (s : Sender) (id : ℕ) (unit store : List ℕ) → f g s id unit store .0 .next .front ≡ s .front
+TakesNone f = (g : Settings) (s : Sender) (id : ℕ) (unit store : List ℕ) → frontOf (f g s id unit store .0 .next) ≡ frontOf s
 
--- ---- a frame: settings, state, store and output before it; answer, store and output after it
+-- ---- a frame: settings, state, store and output before it; answer and output after it
 abbrev pub Framer : Type 0
-Framer = Settings → Sender → List ℕ → List ℕ → Framed × List ℕ × List ℕ
+Framer = Settings → Sender → List ℕ → List ℕ → Framed × List ℕ
 
 abbrev pub Frames : Framer → Type 0
 Frames f = (g : Settings) (s : Sender) (store out : List ℕ) →
-    (f g s store out .0 ≡ keptFrameFor g s store out) × (f g s store out .1 ≡ keptStoreAfter g s store out) × (f g s store out .2 ≡ keptFrameOut g s store out)
+    (f g s store out .0 ≡ ringFrameFor g s store out) × (f g s store out .1 ≡ ringFrameOut g s store out)
 
 -- the id of a frame's first packet: filler comes last, so a frame that begins with id 3 holds nothing else
 abbrev pub firstId : ℕ → List ℕ → ℕ
@@ -93,15 +93,15 @@ firstId p frame = decode p (take (p + 3) frame) .id
 
 -- a sender of nothing but filler
 abbrev pub OnlyFiller : Framer → Type 0
-OnlyFiller f = (g : Settings) (s : Sender) (store out : List ℕ) → f g s store out .0 .number ≡ 0 → firstId (g .p) (f g s store out .2) ≡ 3
+OnlyFiller f = (g : Settings) (s : Sender) (store out : List ℕ) → f g s store out .0 .number ≡ 0 → firstId (g .p) (f g s store out .1) ≡ 3
 
--- what the next call gives, handed the state, the store and the output that this one left
-abbrev pub again : Framer → Settings → Sender → List ℕ → List ℕ → Framed × List ℕ × List ℕ
-again f g s store out = f g (f g s store out .0 .next) (f g s store out .1) (f g s store out .2)
+-- what the next call gives, handed the state and the output that this one left, and the same store
+abbrev pub again : Framer → Settings → Sender → List ℕ → List ℕ → Framed × List ℕ
+again f g s store out = f g (f g s store out .0 .next) store (f g s store out .1)
 
 -- one that serves its first frame and sends filler after
 abbrev pub ThenFiller : Framer → Type 0
-ThenFiller f = (g : Settings) (s : Sender) (store out : List ℕ) → f g s store out .0 .number ≡ 0 → firstId (g .p) (again f g s store out .2) ≡ 3
+ThenFiller f = (g : Settings) (s : Sender) (store out : List ℕ) → f g s store out .0 .number ≡ 0 → firstId (g .p) (again f g s store out .1) ≡ 3
 
 -- one that serves its first frame and refuses after
 abbrev pub ThenRefuses : Framer → Type 0
@@ -109,7 +109,7 @@ ThenRefuses f = (g : Settings) (s : Sender) (store out : List ℕ) → f g s sto
 
 -- the arrays of a state are as long as their types say: three queues of eight places
 abbrev pub Shaped : Sender → Type 0
-Shaped s = (length (s .front .q) ≡ 3) × ((id : ℕ) → id < 3 → length (queueOf (s .front) id .left) ≡ 8)
+Shaped s = (length (s .q) ≡ 3) × ((id : ℕ) → id < 3 → length (queueOf (frontOf s) id .left) ≡ 8)
 
 -- the packets of an id in a frame of N packets, read one by one
 abbrev pub heldBy : Settings → ℕ → List ℕ → ℕ
@@ -118,7 +118,7 @@ heldBy g id frame = length (ofId (g .p) id (split (g .p + 3) (g .n) frame))
 -- the reported packets of each queue and the reported filler are those of its own output
 abbrev pub Counts : Framer → Type 0
 Counts f = (g : Settings) (s : Sender) (store out : List ℕ) → Shaped s → f g s store out .0 .number ≡ 0 →
-    ((id : ℕ) → id < 3 → at (f g s store out .0 .packets) id ≡ heldBy g id (f g s store out .2)) × (f g s store out .0 .filler ≡ heldBy g 3 (f g s store out .2))
+    ((id : ℕ) → id < 3 → at (f g s store out .0 .packets) id ≡ heldBy g id (f g s store out .1)) × (f g s store out .0 .filler ≡ heldBy g 3 (f g s store out .1))
 
 -- packet counts invented: they are not those
 abbrev pub Invents : Framer → Type 0

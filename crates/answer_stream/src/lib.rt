@@ -36,7 +36,7 @@ fn script(call: u8, body: &[u8], at: usize, whole: bool, one: &mut [u8], two: &m
 // Bytes before the first buffer, or before the number of steps.
 fn head(call: u8) -> usize {
     match call {
-        35 => 114,
+        35 => 120,
         36 => 20,
         _ => answer_hand::SETTINGS,
     }

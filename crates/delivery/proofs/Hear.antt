@@ -1,17 +1,17 @@
 -- One packet at the receiver, seen from each id: its own line takes it, every other stays. Assumes nothing.
 use Prim.Native.Nat.{ℕ, zero, suc, _+_, _*_, _<_, _≤_}
 use mathlib.Core.Path.{_≡_, refl, sym, ap, _∙_}
-use mathlib.Core.List.{List, [], _∷_, _++_, append-assoc}
+use mathlib.Core.List.{List, [], _∷_, _++_}
 use mathlib.Core.Bool.{Bool, true, false, not, _&&_, true≢false}
 use native.Mathlib.Omega.{arith}
 use borrow.Author.Tests.{eq-eqb, ne-eqb, le-ltb, leb-true, eqb-true, eqb-false}
 use lib.Dec.{leb, ltb, eqb}
-use lib.ListN.{length, take, drop, getD, length-append, length-drop, length-set}
-use lib.Seq.{getD-set-same, getD-set-other, take-at, length-take-le}
+use lib.ListN.{length, take, drop, getD, length-drop, length-set}
+use lib.Seq.{getD-set-same, getD-set-other, length-take-le}
 use Rattle.laws.specs.Part.{partOf}
 use Rattle.laws.specs.Pick.{pick}
 use Rattle.laws.specs.Written.{written}
-use Rattle.laws.proofs.Written.{written-length}
+use Rattle.laws.proofs.Written.{written-length, take-written}
 use Rattle.packet.specs.Packet.{Packet, decode}
 use Rattle.packet.specs.Calls.{testsFor, checkFor}
 use Rattle.receiver.specs.declared.Link.{Link}
@@ -84,12 +84,6 @@ front-is : (l : Link) (f : Bool) (q : List ℕ) → take (baseOf l f) q ≡ pick
 unfolding baseOf
 front-is l true q = refl
 front-is l false q = refl
-
-take-written : (d : List ℕ) (at : ℕ) (xs : List ℕ) → at ≤ length d → take (at + length xs) (written d at xs) ≡ take at d ++ xs
-unfolding written
-take-written d at xs h =
-    ap (take (at + length xs)) (sym (append-assoc (take at d) xs (drop (at + length xs) d)))
-    ∙ take-at (take at d ++ xs) (drop (at + length xs) d) (at + length xs) (length-append (take at d) xs ∙ omega (arith, length-take-le at d h))
 
 module _ (r : Receiver) (buffer : List ℕ) (k : Packet) (four : length (r .link) ≡ 4) (hid : k .id < 4) (size : length buffer ≡ 16384) where
   own-link : linkOf (takenIn r k .next) (k .id) ≡ linkIn r k

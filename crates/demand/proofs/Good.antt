@@ -101,7 +101,7 @@ unfolding loaded putQueue
 loaded-queue s id j n l h = put-at (s .q) id j (pushed (queueOf s id) n) (omega arith) (eqb j id) refl
 
 module _ (p : ℕ) (x : Desk) (k : Good p x) where
-  taken-good : (id : ℕ) (unit : List ℕ) → Accepted (x .state) id (length unit) (length (x .store))
+  pub taken-good : (id : ℕ) (unit : List ℕ) → Accepted (x .state) id (length unit) (length (x .store))
       → Good p (record { state = loaded (x .state) id (length unit); store = placedIn (x .state) id unit (x .store) })
   unfolding loaded putQueue placedIn
   taken-good id unit a =
@@ -149,7 +149,7 @@ module _ (g : Settings) (x : Desk) (k : Good (g .p) x) where
   unfolding handOf
   turn-in al = hand-turn g (waitingOf (g .p) (x .state)) (x .state .turn) al (k .turn)
 
-  framed-good : Allowed g → Good (g .p) (record { state = framed g (x .state) .next; store = closedAll (g .p) (x .state) (handOf g (x .state) .packets) (x .store) })
+  pub framed-good : Allowed g → Good (g .p) (record { state = framed g (x .state) .next; store = closedAll (g .p) (x .state) (handOf g (x .state) .packets) (x .store) })
   unfolding framed nextFrom endsOf closedAll
   framed-good al =
       let p = g .p in

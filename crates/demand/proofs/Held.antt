@@ -80,7 +80,7 @@ module _ (p : ℕ) (x : Desk) (k : Good p x) (j : ℕ) (unit : List ℕ) (a : Ac
 -- ---- a frame
 -- the unsent bytes of queue j at the front of its part
 module _ (store : List ℕ) (j : ℕ) (o : Out) (hj : j < 3) (hs : length store ≡ 12288) (h : o .at + unsent (o .q) ≤ 4096) where
-  moved : List ℕ
+  unfoldable pub moved : List ℕ
   moved = take (unsent (o .q)) (drop (o .at) (partOf store j))
 
   moved-is : take (unsent (o .q)) (drop (j * 4096 + o .at) store) ≡ moved
@@ -94,7 +94,7 @@ module _ (store : List ℕ) (j : ℕ) (o : Out) (hj : j < 3) (hs : length store 
       ∙ ap (drop (o .at)) (sym (take-take (o .at + n) 4096 r h))
       ∙ sym (take-drop n (o .at) (take 4096 r) (let m = length-take-le 4096 r (omega arith) in omega arith))
 
-  moved-length : length moved ≡ unsent (o .q)
+  pub moved-length : length moved ≡ unsent (o .q)
   unfolding moved
   moved-length =
       let l : length (partOf store j) ≡ 4096 = length-take-le 4096 (drop (j * 4096) store) (omega (arith, length-drop (j * 4096) store)) in
@@ -107,13 +107,13 @@ module _ (store : List ℕ) (j : ℕ) (o : Out) (hj : j < 3) (hs : length store 
       pulled-is store (j * 4096) (j * 4096 + o .at) (unsent (o .q)) (omega arith) (omega arith)
       ∙ ap₂ (λ (b : ℕ) (t : List ℕ). written store b t) z moved-is
 
-  closed-own : partOf (closed store j o) j ≡ written (partOf store j) 0 moved
+  pub closed-own : partOf (closed store j o) j ≡ written (partOf store j) 0 moved
   closed-own = ap (λ (d : List ℕ). partOf d j) closed-is ∙ written-own store j 0 moved (omega arith) (let m = moved-length in omega arith)
 
-  closed-other : (i : ℕ) → (i ≡ j → ⊥) → partOf (closed store j o) i ≡ partOf store i
+  pub closed-other : (i : ℕ) → (i ≡ j → ⊥) → partOf (closed store j o) i ≡ partOf store i
   closed-other i e = ap (λ (d : List ℕ). partOf d i) closed-is ∙ written-other store j 0 moved (omega arith) (let m = moved-length in omega arith) i e
 
-  closed-size : length (closed store j o) ≡ 12288
+  pub closed-size : length (closed store j o) ≡ 12288
   unfolding closed
   closed-size = pulled-length store (j * 4096) (j * 4096 + o .at) (unsent (o .q)) ∙ hs
 

@@ -8,7 +8,7 @@ ghost use Rattle.packet.specs.Calls.{checkFor};
 ghost use Rattle.hand.specs.Settings.{settingsFor};
 ghost use Rattle.receiver.specs.Receiver.{bufferFor};
 ghost use Rattle.receiver.specs.Dropped.{reportFor};
-ghost use Rattle.sender.specs.Kept.{freshKept, keptLoadFor, keptStoreFor, keptFrameFor, keptStoreAfter, keptFrameOut};
+ghost use Rattle.sender.specs.Rings.{freshRings, ringLoadFor, ringStoreFor, ringFrameFor, ringFrameOut};
 ghost use Rattle.host.specs.Received.{unheard, receivedBy, receivedFor, said};
 use hand::Settings;
 use receiver::Answer;
@@ -53,7 +53,7 @@ pub extern "C" fn keshgurvat_settings_check(settings: Settings) -> u32
 
 #[no_mangle]
 pub extern "C" fn keshgurvat_sender_fresh() -> Sender
-    ensures { λ r. ⌜ r ≡ freshKept ⌝ }
+    ensures { λ r. ⌜ r ≡ freshRings ⌝ }
 {
     Sender::fresh()
 }
@@ -66,8 +66,8 @@ pub extern "C" fn keshgurvat_load(
     id: usize,
     unit: &[u8],
 ) -> Loaded
-    ensures answer { λ r. ⌜ r ≡ keptLoadFor settings state id (now (unit .entry)) (now (store .entry)) ⌝ }
-    ensures memory { λ _. ⌜ now (store .exit) ≡ keptStoreFor settings state id (now (unit .entry)) (now (store .entry)) ⌝ }
+    ensures answer { λ r. ⌜ r ≡ ringLoadFor settings state id (now (unit .entry)) (now (store .entry)) ⌝ }
+    ensures memory { λ _. ⌜ now (store .exit) ≡ ringStoreFor settings state id (now (unit .entry)) (now (store .entry)) ⌝ }
 {
     state.load(settings, store, id, unit)
 }
@@ -76,12 +76,11 @@ pub extern "C" fn keshgurvat_load(
 pub extern "C" fn keshgurvat_frame(
     state: Sender,
     settings: Settings,
-    store: &mut [u8],
+    store: &[u8],
     out: &mut [u8],
 ) -> Framed
-    ensures answer { λ r. ⌜ r ≡ keptFrameFor settings state (now (store .entry)) (now (out .entry)) ⌝ }
-    ensures kept { λ _. ⌜ now (store .exit) ≡ keptStoreAfter settings state (now (store .entry)) (now (out .entry)) ⌝ }
-    ensures written { λ _. ⌜ now (out .exit) ≡ keptFrameOut settings state (now (store .entry)) (now (out .entry)) ⌝ }
+    ensures answer { λ r. ⌜ r ≡ ringFrameFor settings state (now (store .entry)) (now (out .entry)) ⌝ }
+    ensures written { λ _. ⌜ now (out .exit) ≡ ringFrameOut settings state (now (store .entry)) (now (out .entry)) ⌝ }
 {
     state.frame(settings, store, out)
 }

@@ -5,9 +5,9 @@ use Prim.Native.Nat.{ℕ, _+_, _≤_, _<_}
 use native.Mathlib.Nat.{add-assoc, zero-add}
 use native.Mathlib.Numerals.{add-one}
 use native.Mathlib.Omega.{arith}
-use lib.ListN.{length, getD, take, drop, set, length-append, length-drop, take-append-drop}
+use lib.ListN.{length, getD, take, drop, set, length-append, length-drop, take-append-drop, List·getD-append}
 use Rattle.laws.specs.Written.{written}
-use lib.Seq.{set-split, take-at, drop-at, length-take-le, drop-drop, take-suc, getD-append-add, getD-drop}
+use lib.Seq.{set-split, take-at, drop-at, length-take-le, drop-drop, take-suc, getD-append-add, getD-take, getD-drop}
 
 module _ (d : List ℕ) (at : ℕ) where
   pub written-none : written d at [] ≡ d
@@ -87,7 +87,28 @@ written-after d at xs k fits =
     ∙ getD-append-add (take at d ++ xs) (drop n d) k 0
     ∙ getD-drop n d k 0
 
--- what was written at the front of an output is there
+-- so it is before it
+pub written-before : (d : List ℕ) (at : ℕ) (xs : List ℕ) → at + length xs ≤ length d → (i : ℕ) → i < at → getD (written d at xs) i 0 ≡ getD d i 0
+unfolding written
+written-before d at xs fits i h =
+    List·getD-append (take at d) (xs ++ drop (at + length xs) d) 0 i (omega (arith, length-take-le at d (omega arith))) ∙ getD-take at d i 0 h
+
+-- and what was written is there: place by place
+pub written-at : (d : List ℕ) (at : ℕ) (xs : List ℕ) → at + length xs ≤ length d → (j : ℕ) → j < length xs → getD (written d at xs) (at + j) 0 ≡ getD xs j 0
+unfolding written
+written-at d at xs fits j h =
+    ap (λ (k : ℕ). getD (take at d ++ (xs ++ drop (at + length xs) d)) (k + j) 0) (sym (length-take-le at d (omega arith)))
+    ∙ getD-append-add (take at d) (xs ++ drop (at + length xs) d) j 0
+    ∙ List·getD-append xs (drop (at + length xs) d) 0 j h
+
+-- behind what was before it
+pub take-written : (d : List ℕ) (at : ℕ) (xs : List ℕ) → at ≤ length d → take (at + length xs) (written d at xs) ≡ take at d ++ xs
+unfolding written
+take-written d at xs h =
+    ap (take (at + length xs)) (sym (append-assoc (take at d) xs (drop (at + length xs) d)))
+    ∙ take-at (take at d ++ xs) (drop (at + length xs) d) (at + length xs) (length-append (take at d) xs ∙ omega (arith, length-take-le at d h))
+
+-- at the front of an output
 pub front : (d xs : List ℕ) (n : ℕ) → length xs ≡ n → take n (written d 0 xs) ≡ xs
 unfolding written
 front d xs n l = take-at xs (drop (0 + length xs) d) n l

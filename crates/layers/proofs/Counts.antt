@@ -1,139 +1,147 @@
--- E1 of 02 over runs: the counts stay right, and the answers are those of a run of 01's calls. Assumes nothing.
-use Prim.Native.Nat.{ℕ, zero, suc, _<_}
-use mathlib.Core.Path.{_≡_, refl, sym, ap, ap₂, _∙_, subst}
-use mathlib.Core.List.{List, [], _∷_, _++_}
-use mathlib.Core.Bool.{Bool, true, false}
-use native.Mathlib.Omega.{arith}
-use borrow.Author.Tests.{eqb-true, eqb-false}
+-- E9 and E1 of 02, of the calls as they are: rings answer as the layout of before, and the counts stay right. Assumes nothing.
+use Prim.Native.Nat.{ℕ, _<_}
+use mathlib.Core.Path.{_≡_, refl, sym, ap, _∙_, subst}
+use mathlib.Core.List.{List}
+use mathlib.Core.Bool.{Bool, true, false, not}
+use borrow.Author.Tests.{eq-eqb, ne-eqb}
 use lib.Dec.{eqb}
 use lib.ListN.{length}
 use Rattle.laws.specs.Pick.{pick}
-use Rattle.queue.specs.Queue.{addUp, waits, waiting}
-use Rattle.sender.specs.State.{fresh}
-use Rattle.sender.specs.Kept.{storedOf, freshKept}
-use Rattle.demand.specs.Run.{Act, settingsOf, Steady, Desk, freshDesk, run, Answer, answer, answers}
-use Rattle.demand.specs.Log.{Event, events, Stands, waitingAt}
-use Rattle.demand.specs.Within.{waitingIn}
-use Rattle.demand.proofs.Mirror.{mirror, waiting-seen}
-use Rattle.layers.specs.Run.{KeptDesk, freshKeptDesk, plain, afterKept, runKept, answerKept, answersKept, logKept}
+use Rattle.laws.specs.Refuse.{refusedWith}
+use Rattle.hand.specs.Settings.{settingsFor}
+use Rattle.hand.specs.Hand.{noThree}
+use Rattle.hand.specs.declared.Settings.{Settings}
+use Rattle.sender.specs.Load.{loadTests, loaded}
+use Rattle.sender.specs.Frame.{frameTests, framed}
+use Rattle.sender.specs.Kept.{Kept, storedOf, miscounted, keptLoadTests, keptFrameTests}
+use Rattle.sender.specs.Rings.{frontOf, keptOf, ringStart, ringLoaded, ringFramed, strayed, ringLoadTests, ringLoadNumber, ringLoadFor, ringStoreFor, ringFrameTests, ringFrameNumber, ringFrameFor}
+use Rattle.sender.specs.declared.Sender.{Sender}
+use Rattle.sender.specs.declared.Framed.{Framed}
+use Rattle.sender.proofs.Kept.{right-counts}
+use Rattle.sender.proofs.Checks.{strayed-at}
+use Rattle.sender.proofs.Going.{ring-frame-says}
+use Rattle.demand.specs.Run.{Act, load, frame, settingsOf}
+use Rattle.demand.specs.Log.{events, Stands, waitingAt}
+use Rattle.layers.specs.KeptRun.{KeptDesk, freshKeptDesk, runKept, logKept}
+use Rattle.layers.specs.Run.{RingDesk, freshRingDesk, afterRing, runRing, answerRing, logRing}
+use Rattle.layers.specs.Rings.{Same, SameRun, RingsAreSame}
 use Rattle.layers.specs.Counts.{Right, Stays, CountsAreKept, DisplayIsTrue}
-use Rattle.layers.proofs.Without.{eventsWith, waiting-with}
-use Rattle.layers.proofs.Stays.{number-wrong, accepted-right, refused-same, stays}
+use Rattle.layers.proofs.Same.{one-call, every-run, fresh-same}
+use Rattle.layers.proofs.Writes.{load-writes}
+use Rattle.layers.proofs.Stays.{RightKept, kept-right}
+use Rattle.layers.proofs.Stays as old
+use Rattle.layers.proofs.KeptCounts.{fresh-right, run-right, kept-display}
 
--- a fresh state is right for every p
-fresh-right : (p : ℕ) → Right p freshKept
-unfolding freshKept fresh waiting waits addUp
-fresh-right p zero h = refl
-fresh-right p (suc zero) h = refl
-fresh-right p (suc (suc zero)) h = refl
-fresh-right p (suc (suc (suc id))) h = absurd (omega arith)
+-- ---- one call: what an accepted one leaves, and a refused one
+accepted-right : (a : Act) (y : RingDesk) → answerRing a y .number ≡ 0 → Right (settingsOf a .p) (afterRing a y .state)
+unfolding answerRing afterRing ringLoadFor ringLoaded ringFrameFor ringFramed
+accepted-right (load g id unit) y z =
+    subst (λ (s : Sender). Right (g .p) s) (sym (ap (λ (b : Bool). pick b (ringLoaded (g .p) (y .state) id (length unit)) (y .state)) (eq-eqb _ 0 z)))
+    (kept-right (g .p) (loaded (frontOf (y .state)) id (length unit)))
+accepted-right (frame g out) y z =
+    subst (λ (f : Framed). Right (g .p) (f .next))
+    (sym
+    (ap (λ (b : Bool). pick b (ringFramed g (y .state)) (record { number = ringFrameNumber g (y .state) (y .store) out; next = y .state; packets = noThree; spares = 0; filler = 0 }))
+    (eq-eqb _ 0 (sym (ring-frame-says g (y .state) (y .store) out) ∙ z))))
+    (kept-right (g .p) (framed g (frontOf (y .state)) .next))
 
--- a call keeps the counts right
-after-right : (p : ℕ) (a : Act) (x : KeptDesk) → (answerKept a x .number ≡ 0 → settingsOf a .p ≡ p) → Right p (x .state) → Right p (afterKept a x .state)
-after-right p a x e r = go (eqb (answerKept a x .number) 0) refl
+refused-same : (a : Act) (y : RingDesk) → (answerRing a y .number ≡ 0 → ⊥) → afterRing a y ≡ y
+unfolding answerRing afterRing ringLoadFor ringStoreFor ringFrameFor
+refused-same (load g id unit) y n = simp (ne-eqb (ringLoadNumber g (y .state) id unit (y .store)) 0 n)
+refused-same (frame g out) y n =
+    simp (ne-eqb (ringFrameNumber g (y .state) (y .store) out) 0 (λ z. n (ring-frame-says g (y .state) (y .store) out ∙ z)))
+
+-- ---- the number where a start is too far, or a count is wrong
+else-17 : (b t : Bool) (x : ℕ) → t ≡ true → _≡_ {A = ℕ} (pick (not b) 13 (pick t 17 x)) (pick b 17 13)
+else-17 true t x h = ap (λ (c : Bool). pick c 17 x) h
+else-17 false t x h = refl
+
+after-17 : (b t m : Bool) (x : ℕ) → m ≡ true → _≡_ {A = ℕ} (pick (not b) 13 (pick t 17 (pick (not b) 13 (pick m 17 x)))) (pick b 17 13)
+after-17 true true m x h = refl
+after-17 true false m x h = ap (λ (c : Bool). pick c 17 x) h
+after-17 false t m x h = refl
+
+module _ (g : Settings) (s : Sender) where
+  load-strayed : (id : ℕ) (unit store : List ℕ) → strayed s ≡ true → ringLoadNumber g s id unit store ≡ pick (eqb (settingsFor g) 0) 17 13
+  unfolding ringLoadNumber ringLoadTests
+  load-strayed id unit store h = else-17 (eqb (settingsFor g) 0) (strayed s) (refusedWith (keptLoadTests g (keptOf s) id (length unit) (length store))) h
+
+  frame-strayed : (store out : List ℕ) → strayed s ≡ true → ringFrameNumber g s store out ≡ pick (eqb (settingsFor g) 0) 17 13
+  unfolding ringFrameNumber ringFrameTests
+  frame-strayed store out h = else-17 (eqb (settingsFor g) 0) (strayed s) (refusedWith (keptFrameTests g (keptOf s) (length store) (length out))) h
+
+  load-wrong : (id : ℕ) (unit store : List ℕ) → miscounted (g .p) (keptOf s) ≡ true → ringLoadNumber g s id unit store ≡ pick (eqb (settingsFor g) 0) 17 13
+  unfolding ringLoadNumber ringLoadTests keptLoadTests
+  load-wrong id unit store h =
+      after-17 (eqb (settingsFor g) 0) (strayed s) (miscounted (g .p) (keptOf s)) (refusedWith (loadTests g (frontOf s) id (length unit) (length store))) h
+
+  frame-wrong : (store out : List ℕ) → miscounted (g .p) (keptOf s) ≡ true → ringFrameNumber g s store out ≡ pick (eqb (settingsFor g) 0) 17 13
+  unfolding ringFrameNumber ringFrameTests keptFrameTests
+  frame-wrong store out h =
+      after-17 (eqb (settingsFor g) 0) (strayed s) (miscounted (g .p) (keptOf s)) (refusedWith (frameTests g (frontOf s) (length store) (length out))) h
+
+number-strayed : (a : Act) (y : RingDesk) (id : ℕ) → id < 3 → 4095 < ringStart (y .state) id → answerRing a y .number ≡ pick (eqb (settingsFor (settingsOf a)) 0) 17 13
+unfolding answerRing ringLoadFor
+number-strayed (load g j unit) y id h k = load-strayed g (y .state) j unit (y .store) (sym (strayed-at (y .state) id h k))
+number-strayed (frame g out) y id h k = ring-frame-says g (y .state) (y .store) out ∙ frame-strayed g (y .state) (y .store) out (sym (strayed-at (y .state) id h k))
+
+wrong-found : (p : ℕ) (s : Sender) → (Right p s → ⊥) → miscounted p (keptOf s) ≡ true
+wrong-found p s n = go (miscounted p (keptOf s)) refl
   where
-    go : (b : Bool) → eqb (answerKept a x .number) 0 ≡ b → Right p (afterKept a x .state)
-    go true h = let z = eqb-true _ 0 h in subst (λ (q : ℕ). Right q (afterKept a x .state)) (e z) (accepted-right a x z)
-    go false h = subst (λ (y : KeptDesk). Right p (y .state)) (sym (refused-same a x (eqb-false _ 0 h))) r
+    go : (b : Bool) → miscounted p (keptOf s) ≡ b → miscounted p (keptOf s) ≡ true
+    go true e = e
+    go false e = absurd (n (right-counts p (keptOf s) e))
 
-run-right : (p : ℕ) (acts : List Act) (x : KeptDesk) → Stands p (logKept acts x) → Right p (x .state) → Right p (runKept acts x .state)
-unfolding runKept answersKept events
-run-right p [] x st r = r
-run-right p (a ∷ acts) x st r = run-right p acts (afterKept a x) (st .1) (after-right p a x (st .0) r)
+number-wrong : (a : Act) (y : RingDesk) → (Right (settingsOf a .p) (y .state) → ⊥) → answerRing a y .number ≡ pick (eqb (settingsFor (settingsOf a)) 0) 17 13
+unfolding answerRing ringLoadFor
+number-wrong (load g id unit) y n = load-wrong g (y .state) id unit (y .store) (wrong-found (g .p) (y .state) n)
+number-wrong (frame g out) y n = ring-frame-says g (y .state) (y .store) out ∙ frame-wrong g (y .state) (y .store) out (wrong-found (g .p) (y .state) n)
 
--- ---- the run of 01's calls beside it
-module _ (p : ℕ) where
-  here : (a : Act) (x : KeptDesk) → settingsOf a .p ≡ p → Right p (x .state) → Stays a x
-  here a x e r = stays a x (subst (λ (q : ℕ). Right q (x .state)) (sym e) r)
+-- ---- E9
+pub rings-are-same : RingsAreSame
+unfolding afterRing
+rings-are-same = record {
+  call = one-call;
+  run = every-run;
+  fresh = λ acts s t l. every-run acts (freshKeptDesk s) (freshRingDesk t) (fresh-same s t l);
+  strayed = number-strayed;
+  frames = λ g out y. refl;
+  loads = load-writes;
+  refused = refused-same;
+}
 
-  pub same-answers : (acts : List Act) (x : KeptDesk) → Steady p acts → Right p (x .state) → answersKept acts x ≡ answers acts (plain x)
-  unfolding answersKept answers
-  same-answers [] x st r = refl
-  same-answers (a ∷ acts) x st r =
-      let k = here a x (st .0) r in
-      ap₂ (λ (b : Answer) (bs : List Answer). b ∷ bs) (k .answer)
-      (same-answers acts (afterKept a x) (st .1) (after-right p a x (λ z. st .0) r) ∙ ap (answers acts) (k .desk))
+-- from fresh, with one and the same store
+module _ (acts : List Act) (store : List ℕ) where
+  beside : SameRun acts (freshKeptDesk store) (freshRingDesk store)
+  beside = every-run acts (freshKeptDesk store) (freshRingDesk store) (fresh-same store store refl)
 
-  pub same-run : (acts : List Act) (x : KeptDesk) → Steady p acts → Right p (x .state) → plain (runKept acts x) ≡ run acts (plain x)
-  unfolding runKept run
-  same-run [] x st r = refl
-  same-run (a ∷ acts) x st r = same-run acts (afterKept a x) (st .1) (after-right p a x (λ z. st .0) r) ∙ ap (run acts) (here a x (st .0) r .desk)
+  pub log-is : logKept acts (freshKeptDesk store) ≡ logRing acts (freshRingDesk store)
+  log-is = ap (events acts) (sym (beside .answers))
 
-  -- from fresh
-  module _ (acts : List Act) (store : List ℕ) (st : Steady p acts) where
-    pub fresh-answers : answersKept acts (freshKeptDesk store) ≡ answers acts (freshDesk store)
-    unfolding freshKept
-    fresh-answers = same-answers acts (freshKeptDesk store) st (fresh-right p)
+  state-is : runKept acts (freshKeptDesk store) .state ≡ keptOf (runRing acts (freshRingDesk store) .state)
+  state-is = beside .desks .state
 
-    pub fresh-run : plain (runKept acts (freshKeptDesk store)) ≡ run acts (freshDesk store)
-    unfolding freshKept
-    fresh-run = same-run acts (freshKeptDesk store) st (fresh-right p)
-
--- where p is the same in every call, it is that of every call that was not refused
-pub steady-stands : (p : ℕ) (acts : List Act) (bs : List Answer) → Steady p acts → Stands p (events acts bs)
-unfolding events
-steady-stands p [] bs st = tt
-steady-stands p (a ∷ acts) [] st = tt
-steady-stands p (a ∷ acts) (b ∷ bs) st = (λ z. st .0, steady-stands p acts bs (st .1))
-
--- ---- without the calls that have another p: where p stands these were refused, and the run is the same
-unfoldable pub actsWith : ℕ → List Act → List Act
-actsWith p [] = []
-actsWith p (a ∷ acts) = pick (eqb (settingsOf a .p) p) (a ∷ []) [] ++ actsWith p acts
-
-pub steady-with : (p : ℕ) (acts : List Act) → Steady p (actsWith p acts)
-unfolding actsWith
-steady-with p [] = tt
-steady-with p (a ∷ acts) = go (eqb (settingsOf a .p) p) refl (steady-with p acts)
-  where
-    go : (b : Bool) → eqb (settingsOf a .p) p ≡ b → Steady p (actsWith p acts) → Steady p (pick b (a ∷ []) [] ++ actsWith p acts)
-    go true e k = (eqb-true _ _ e, k)
-    go false e k = k
-
--- the calls acts from x have the log es and leave y
-abbrev pub Gives : List Act → KeptDesk → List Event → KeptDesk → Type 0
-Gives acts x es y = (logKept acts x ≡ es) × (runKept acts x ≡ y)
-
-pub run-with : (p : ℕ) (acts : List Act) (x : KeptDesk) → Stands p (logKept acts x)
-    → Gives (actsWith p acts) x (eventsWith p (logKept acts x)) (runKept acts x)
-unfolding eventsWith actsWith answersKept events runKept
-run-with p [] x st = (refl, refl)
-run-with p (a ∷ acts) x st = go (eqb (settingsOf a .p) p) refl (run-with p acts (afterKept a x) (st .1))
-  where
-    go : (b : Bool) → eqb (settingsOf a .p) p ≡ b → Gives (actsWith p acts) (afterKept a x) (eventsWith p (logKept acts (afterKept a x))) (runKept acts (afterKept a x))
-        → Gives (pick b (a ∷ []) [] ++ actsWith p acts) x
-        (pick b (record { act = a; answer = answerKept a x } ∷ []) [] ++ eventsWith p (logKept acts (afterKept a x))) (runKept acts (afterKept a x))
-    go true f k = (ap (λ (es : List Event). record { act = a; answer = answerKept a x } ∷ es) (k .0), k .1)
-    go false f k =
-        subst (λ (y : KeptDesk). Gives (actsWith p acts) y (eventsWith p (logKept acts (afterKept a x))) (runKept acts (afterKept a x)))
-        (refused-same a x (λ z. eqb-false _ _ f (st .0 z))) k
+  pub stands-is : (p : ℕ) → Stands p (logRing acts (freshRingDesk store)) → Stands p (logKept acts (freshKeptDesk store))
+  stands-is p = subst (Stands p) (sym log-is)
 
 -- ---- E1
+stays : (a : Act) (x : KeptDesk) (y : RingDesk) → Same x y → Right (settingsOf a .p) (y .state) → Stays a x y
+stays a x y k r =
+    let c = one-call a x y k in
+    let o = old.stays a x (subst (RightKept (settingsOf a .p)) (sym (k .state)) r) in
+    record { answer = c .answer ∙ o .answer; desk = o .desk; desks = c .desks }
+
 pub counts-are-kept : CountsAreKept
 counts-are-kept = record {
-  always = λ p acts store st. run-right p acts (freshKeptDesk store) st (fresh-right p);
+  always = λ p acts store st. subst (RightKept p) (state-is acts store) (run-right p acts (freshKeptDesk store) (stands-is acts store p st) (fresh-right p));
   accepted = accepted-right;
   refused = refused-same;
   stays = stays;
   wrong = number-wrong;
 }
 
-steady-display : (p : ℕ) (acts : List Act) (store : List ℕ) → length store ≡ 12288 → Steady p acts → (id : ℕ) → id < 3
-    → storedOf (runKept acts (freshKeptDesk store) .state) id ≡ waitingAt p id (logKept acts (freshKeptDesk store))
-unfolding waiting waitingIn
-steady-display p acts store hs st id h =
-    let x = freshKeptDesk store in
-    let m = mirror p acts store hs (steady-stands p acts (answers acts (freshDesk store)) st) in
-    run-right p acts x (steady-stands p acts (answersKept acts x) st) (fresh-right p) id h
-    ∙ ap (λ (y : Desk). waitingIn p id y) (fresh-run p acts store st)
-    ∙ waiting-seen p _ _ m id h
-    ∙ ap (λ (bs : List Answer). waitingAt p id (events acts bs)) (sym (fresh-answers p acts store st))
-
 pub display-is-true : DisplayIsTrue
 display-is-true p acts store hs st id h =
-    let x = freshKeptDesk store in
-    let k = run-with p acts x st in
-    ap (λ (y : KeptDesk). storedOf (y .state) id) (sym (k .1))
-    ∙ steady-display p (actsWith p acts) store hs (steady-with p acts) id h
-    ∙ ap (waitingAt p id) (k .0)
-    ∙ waiting-with p (logKept acts x) st id
+    ap (λ (k : Kept). storedOf k id) (sym (state-is acts store))
+    ∙ kept-display p acts store hs (stands-is acts store p st) id h
+    ∙ ap (waitingAt p id) (log-is acts store)

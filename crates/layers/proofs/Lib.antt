@@ -1,5 +1,13 @@
+pub mod Reading
+pub mod Moved
+pub mod SameChecks
+pub mod SameLoads
+pub mod SameFrames
+pub mod Same
+pub mod Writes
 pub mod Without
 pub mod Stays
+pub mod KeptCounts
 pub mod Counts
 pub mod BetweenFair
 pub mod Between

@@ -1,5 +1,5 @@
--- One call of the sender with counts, from any desk: 01's call where the counts are right, else 13 or 17. Assumes nothing.
-use Prim.Native.Nat.{ℕ, zero, suc}
+-- One call of the sender with counts in 01's layout, from any desk: 01's call where the counts are right. Assumes nothing.
+use Prim.Native.Nat.{ℕ, zero, suc, _<_}
 use mathlib.Core.Path.{_≡_, refl, sym, ap, ap₂, _∙_, subst}
 use mathlib.Core.List.{List, []}
 use mathlib.Core.Bool.{Bool, true, false, not}
@@ -8,86 +8,63 @@ use borrow.Author.Tests.{eq-eqb, ne-eqb}
 use lib.Dec.{eqb, lit<}
 use lib.ListN.{length}
 use Rattle.laws.specs.Pick.{pick}
-use Rattle.laws.specs.Refuse.{refusedWith}
 use Rattle.hand.specs.Settings.{settingsFor}
 use Rattle.hand.specs.Hand.{noThree}
 use Rattle.hand.specs.declared.Settings.{Settings}
+use Rattle.queue.specs.Queue.{waiting}
 use Rattle.queue.specs.Stored.{miscounts}
+use Rattle.sender.specs.State.{queueOf}
 use Rattle.sender.specs.Load.{loadTests, loadNumber, loaded, loadFor, storeFor}
 use Rattle.sender.specs.Frame.{frameTests, frameNumber, framed, frameFor, frameOut, storeAfter}
-use Rattle.sender.specs.Kept.{storedOf, kept, miscounted, keptLoadTests, keptLoadNumber, keptLoadFor, keptStoreFor, keptFrameTests, keptFrameNumber, keptFramed, keptFrameFor, keptFrameOut, keptStoreAfter}
+use Rattle.sender.specs.Kept.{Kept, KeptFramed, storedOf, kept, miscounted, keptLoadTests, keptLoadNumber, keptLoadFor, keptStoreFor, keptFrameTests, keptFrameNumber, keptFramed, keptFrameFor, keptFrameOut, keptStoreAfter}
 use Rattle.sender.specs.declared.Front.{Front}
-use Rattle.sender.specs.declared.Sender.{Sender}
-use Rattle.sender.specs.declared.Framed.{Framed}
 use Rattle.sender.specs.Answers as answers
-use Rattle.sender.proofs.KeptFraming.{frame-says}
-use Rattle.sender.proofs.KeptLoading.{right-counts}
+use Rattle.sender.proofs.Kept.{frame-says}
 use Rattle.demand.specs.Run.{Act, load, frame, settingsOf, after, answer}
-use Rattle.layers.specs.Run.{KeptDesk, plain, afterKept, answerKept}
-use Rattle.layers.specs.Counts.{Right, Stays}
+use Rattle.layers.specs.KeptRun.{KeptDesk, plain, afterKept, answerKept}
+use Rattle.layers.proofs.SameChecks.{again}
+
+-- each stored count is the sum over the units of its queue
+abbrev pub RightKept : ℕ → Kept → Type 0
+RightKept p k = (id : ℕ) → id < 3 → storedOf k id ≡ waiting p (queueOf (k .front) id)
+
+-- a call gives what 01's call gives of the state without its counts
+pub record StaysKept (a : Act) (x : KeptDesk) : Type 0 where
+  pub answer : answerKept a x ≡ answer a (plain x)
+  pub desk : plain (afterKept a x) ≡ after a (plain x)
 
 -- ---- the test of the counts
-pub right-fine : (p : ℕ) (s : Sender) → Right p s → miscounted p s ≡ false
+right-fine : (p : ℕ) (k : Kept) → RightKept p k → miscounted p k ≡ false
 unfolding miscounted miscounts
-right-fine p s r =
-    simp (eq-eqb (storedOf s 0) _ (r 0 (lit< tt)), eq-eqb (storedOf s 1) _ (r 1 (lit< tt)), eq-eqb (storedOf s 2) _ (r 2 (lit< tt)))
-
-wrong-found : (p : ℕ) (s : Sender) → (Right p s → ⊥) → miscounted p s ≡ true
-wrong-found p s n = go (miscounted p s) refl
-  where
-    go : (b : Bool) → miscounted p s ≡ b → miscounted p s ≡ true
-    go true e = e
-    go false e = absurd (n (right-counts p s e))
+right-fine p k r =
+    simp (eq-eqb (storedOf k 0) _ (r 0 (lit< tt)), eq-eqb (storedOf k 1) _ (r 1 (lit< tt)), eq-eqb (storedOf k 2) _ (r 2 (lit< tt)))
 
 -- 01's state with its counts
-pub kept-right : (p : ℕ) (f : Front) → Right p (kept p f)
+pub kept-right : (p : ℕ) (f : Front) → RightKept p (kept p f)
 unfolding kept
 kept-right p f zero h = refl
 kept-right p f (suc zero) h = refl
 kept-right p f (suc (suc zero)) h = refl
 kept-right p f (suc (suc (suc id))) h = absurd (omega arith)
 
--- 13 is tried first, and a test that does not hold changes nothing
-again : (a : Bool) (x : ℕ) → pick a 13 (pick false 17 (pick a 13 x)) ≡ pick a 13 x
-again true x = refl
-again false x = refl
-
-else-17 : (b : Bool) (x : ℕ) → pick (not b) 13 (pick true 17 x) ≡ pick b 17 13
-else-17 true x = refl
-else-17 false x = refl
-
 -- ---- numbers
-module _ (g : Settings) (s : Sender) (h : miscounted (g .p) s ≡ false) where
-  pub load-number : (id : ℕ) (unit store : List ℕ) → keptLoadNumber g s id unit store ≡ loadNumber g (s .front) id unit store
+module _ (g : Settings) (s : Kept) (h : miscounted (g .p) s ≡ false) where
+  load-number : (id : ℕ) (unit store : List ℕ) → keptLoadNumber g s id unit store ≡ loadNumber g (s .front) id unit store
   unfolding keptLoadNumber keptLoadTests loadNumber loadTests
   load-number id unit store = rw h (again (not (eqb (settingsFor g) 0)) _)
 
-  pub frame-number : (store out : List ℕ) → keptFrameNumber g s store out ≡ frameNumber g (s .front) store out
+  frame-number : (store out : List ℕ) → keptFrameNumber g s store out ≡ frameNumber g (s .front) store out
   unfolding keptFrameNumber keptFrameTests frameNumber frameTests
   frame-number store out = rw h (again (not (eqb (settingsFor g) 0)) _)
 
-load-wrong : (g : Settings) (s : Sender) (id : ℕ) (unit store : List ℕ) → miscounted (g .p) s ≡ true
-    → keptLoadNumber g s id unit store ≡ pick (eqb (settingsFor g) 0) 17 13
-unfolding keptLoadNumber keptLoadTests
-load-wrong g s id unit store h = rw h (else-17 (eqb (settingsFor g) 0) (refusedWith (loadTests g (s .front) id (length unit) (length store))))
-
-frame-wrong : (g : Settings) (s : Sender) (store out : List ℕ) → miscounted (g .p) s ≡ true → keptFrameNumber g s store out ≡ pick (eqb (settingsFor g) 0) 17 13
-unfolding keptFrameNumber keptFrameTests
-frame-wrong g s store out h = rw h (else-17 (eqb (settingsFor g) 0) (refusedWith (frameTests g (s .front) (length store) (length out))))
-
-pub number-wrong : (a : Act) (x : KeptDesk) → (Right (settingsOf a .p) (x .state) → ⊥) → answerKept a x .number ≡ pick (eqb (settingsFor (settingsOf a)) 0) 17 13
-unfolding answerKept keptLoadFor
-number-wrong (load g id unit) x n = load-wrong g (x .state) id unit (x .store) (wrong-found (g .p) (x .state) n)
-number-wrong (frame g out) x n = frame-says g (x .state) (x .store) out ∙ frame-wrong g (x .state) (x .store) out (wrong-found (g .p) (x .state) n)
-
 -- ---- what an accepted call leaves, and a refused one
-pub accepted-right : (a : Act) (x : KeptDesk) → answerKept a x .number ≡ 0 → Right (settingsOf a .p) (afterKept a x .state)
+pub accepted-right : (a : Act) (x : KeptDesk) → answerKept a x .number ≡ 0 → RightKept (settingsOf a .p) (afterKept a x .state)
 unfolding answerKept afterKept keptLoadFor keptFrameFor keptFramed
 accepted-right (load g id unit) x z =
-    subst (Right (g .p)) (sym (ap (λ (b : Bool). pick b (kept (g .p) (loaded (x .state .front) id (length unit))) (x .state)) (eq-eqb _ 0 z)))
+    subst (RightKept (g .p)) (sym (ap (λ (b : Bool). pick b (kept (g .p) (loaded (x .state .front) id (length unit))) (x .state)) (eq-eqb _ 0 z)))
     (kept-right (g .p) (loaded (x .state .front) id (length unit)))
 accepted-right (frame g out) x z =
-    subst (λ (f : Framed). Right (g .p) (f .next))
+    subst (λ (f : KeptFramed). RightKept (g .p) (f .next))
     (sym
     (ap (λ (b : Bool). pick b (keptFramed g (x .state)) (record { number = keptFrameNumber g (x .state) (x .store) out; next = x .state; packets = noThree; spares = 0; filler = 0 }))
     (eq-eqb _ 0 (sym (frame-says g (x .state) (x .store) out) ∙ z))))
@@ -101,22 +78,22 @@ refused-same (frame g out) x n =
 
 -- ---- where the counts are right
 -- the answer to a frame, without the counts of the state after it
-abbrev plainFramed : Framed → answers.Framed
+abbrev plainFramed : KeptFramed → answers.Framed
 plainFramed f = record { number = f .number; next = f .next .front; packets = f .packets; spares = f .spares; filler = f .filler }
 
-frame-either : (g : Settings) (s : Sender) (b : Bool) (k : ℕ)
+frame-either : (g : Settings) (s : Kept) (b : Bool) (k : ℕ)
     → plainFramed (pick b (keptFramed g s) (record { number = k; next = s; packets = noThree; spares = 0; filler = 0 }))
     ≡ pick b (framed g (s .front)) (record { number = k; next = s .front; packets = noThree; spares = 0; filler = 0 })
 unfolding keptFramed kept framed
 frame-either g s true k = refl
 frame-either g s false k = refl
 
-load-either : (s : Sender) (b : Bool) (p : ℕ) (f : Front) → pick b (kept p f) s .front ≡ pick b f (s .front)
+load-either : (s : Kept) (b : Bool) (p : ℕ) (f : Front) → pick b (kept p f) s .front ≡ pick b f (s .front)
 unfolding kept
 load-either s true p f = refl
 load-either s false p f = refl
 
-module _ (g : Settings) (s : Sender) (h : miscounted (g .p) s ≡ false) where
+module _ (g : Settings) (s : Kept) (h : miscounted (g .p) s ≡ false) where
   frame-same : (store out : List ℕ) → plainFramed (keptFrameFor g s store out) ≡ frameFor g (s .front) store out
   unfolding keptFrameFor frameFor
   frame-same store out = rw (frame-number g s h store out) (frame-either g s (eqb (frameNumber g (s .front) store out) 0) (frameNumber g (s .front) store out))
@@ -155,7 +132,7 @@ same-desk (frame g out) x h =
     ap₂ (λ (f : answers.Framed) (d : List ℕ). record { state = f .next; store = d }) (frame-same g (x .state) h (x .store) out)
     (frame-store g (x .state) h (x .store) out)
 
-pub stays : (a : Act) (x : KeptDesk) → Right (settingsOf a .p) (x .state) → Stays a x
+pub stays : (a : Act) (x : KeptDesk) → RightKept (settingsOf a .p) (x .state) → StaysKept a x
 stays a x r =
     let h = right-fine (settingsOf a .p) (x .state) r in
     record { answer = same-answer a x h; desk = same-desk a x h }

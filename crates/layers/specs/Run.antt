@@ -1,47 +1,42 @@
--- Runs of the calls as they are: each is handed the state with its counts and the store that the last one left. Beside them, the run of 01's
--- calls. Assumes nothing.
+-- Runs of the calls as they are: each is handed the state and the store that the last one left. Assumes nothing.
 use Prim.Native.Nat.{ℕ}
 use mathlib.Core.List.{List, [], _∷_}
 use Rattle.hand.specs.Hand.{noThree}
-use Rattle.sender.specs.Kept.{freshKept, keptLoadFor, keptStoreFor, keptFrameFor, keptStoreAfter, keptFrameOut}
+use Rattle.sender.specs.Rings.{freshRings, ringLoadFor, ringStoreFor, ringFrameFor, ringFrameOut}
 use Rattle.sender.specs.declared.Sender.{Sender}
-use Rattle.demand.specs.Run.{Act, load, frame, Desk, Answer}
+use Rattle.demand.specs.Run.{Act, load, frame, Answer}
 use Rattle.demand.specs.Log.{Event, events}
 
 -- what the calls hand on
-pub record KeptDesk : Type 0 where
+pub record RingDesk : Type 0 where
   pub state : Sender
   pub store : List ℕ
 
-abbrev pub freshKeptDesk : List ℕ → KeptDesk
-freshKeptDesk store = record { state = freshKept; store = store }
+abbrev pub freshRingDesk : List ℕ → RingDesk
+freshRingDesk store = record { state = freshRings; store = store }
 
--- without its counts it is 01's desk
-abbrev pub plain : KeptDesk → Desk
-plain x = record { state = x .state .front; store = x .store }
+-- the state and the store after a call, and after a run of calls. A frame leaves the store as it is
+unfoldable pub afterRing : Act → RingDesk → RingDesk
+afterRing (load g id unit) y =
+    record { state = ringLoadFor g (y .state) id unit (y .store) .next; store = ringStoreFor g (y .state) id unit (y .store) }
+afterRing (frame g out) y = record { state = ringFrameFor g (y .state) (y .store) out .next; store = y .store }
 
--- the state and the store after a call, and after a run of calls
-unfoldable pub afterKept : Act → KeptDesk → KeptDesk
-afterKept (load g id unit) x =
-    record { state = keptLoadFor g (x .state) id unit (x .store) .next; store = keptStoreFor g (x .state) id unit (x .store) }
-afterKept (frame g out) x = record { state = keptFrameFor g (x .state) (x .store) out .next; store = keptStoreAfter g (x .state) (x .store) out }
-
-unfoldable pub runKept : List Act → KeptDesk → KeptDesk
-runKept [] x = x
-runKept (a ∷ rest) x = runKept rest (afterKept a x)
+unfoldable pub runRing : List Act → RingDesk → RingDesk
+runRing [] y = y
+runRing (a ∷ rest) y = runRing rest (afterRing a y)
 
 -- what the caller sees of a call, and of a run
-unfoldable pub answerKept : Act → KeptDesk → Answer
-answerKept (load g id unit) x =
-    record { number = keptLoadFor g (x .state) id unit (x .store) .number; packets = noThree; spares = 0; filler = 0; out = [] }
-answerKept (frame g out) x =
-    let f = keptFrameFor g (x .state) (x .store) out in
-    record { number = f .number; packets = f .packets; spares = f .spares; filler = f .filler; out = keptFrameOut g (x .state) (x .store) out }
+unfoldable pub answerRing : Act → RingDesk → Answer
+answerRing (load g id unit) y =
+    record { number = ringLoadFor g (y .state) id unit (y .store) .number; packets = noThree; spares = 0; filler = 0; out = [] }
+answerRing (frame g out) y =
+    let f = ringFrameFor g (y .state) (y .store) out in
+    record { number = f .number; packets = f .packets; spares = f .spares; filler = f .filler; out = ringFrameOut g (y .state) (y .store) out }
 
-unfoldable pub answersKept : List Act → KeptDesk → List Answer
-answersKept [] x = []
-answersKept (a ∷ rest) x = answerKept a x ∷ answersKept rest (afterKept a x)
+unfoldable pub answersRing : List Act → RingDesk → List Answer
+answersRing [] y = []
+answersRing (a ∷ rest) y = answerRing a y ∷ answersRing rest (afterRing a y)
 
--- the run of calls from what x holds, seen from outside
-abbrev pub logKept : List Act → KeptDesk → List Event
-logKept acts x = events acts (answersKept acts x)
+-- the run of calls from what y holds, seen from outside
+abbrev pub logRing : List Act → RingDesk → List Event
+logRing acts y = events acts (answersRing acts y)

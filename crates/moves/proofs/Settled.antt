@@ -5,17 +5,14 @@ use mathlib.Core.Path.{_≡_}
 use lib.ListN.{replicate}
 use Rattle.laws.specs.Settle.{Settles}
 use Rattle.laws.proofs.Settle.{settled, settled-both}
-use Rattle.moves.specs.Moves.{placed, behind, pulled}
+use Rattle.moves.specs.Moves.{placed, behind}
 
--- `copy`, `clear` and `pull` answer nothing; an input is the slice before the call and what the call is handed
+-- `copy` and `clear` answer nothing; an input is the slice before the call and what the call is handed
 pub copied : Settles (λ (i : List ℕ × ℕ × List ℕ) (o : List ℕ). o ≡ placed (i .0) (i .1) (i .2))
 copied = settled (λ i. placed (i .0) (i .1) (i .2))
 
 pub cleared : Settles (λ (i : List ℕ × ℕ × ℕ) (o : List ℕ). o ≡ placed (i .0) (i .1) (replicate (i .2) 0))
 cleared = settled (λ i. placed (i .0) (i .1) (replicate (i .2) 0))
-
-pub moved : Settles (λ (i : List ℕ × ℕ × ℕ × ℕ) (o : List ℕ). o ≡ pulled (i .0) (i .1) (i .2) (i .3))
-moved = settled (λ i. pulled (i .0) (i .1) (i .2) (i .3))
 
 -- `put`; an outcome is the answer and the slice after the call
 pub put-behind : Settles (λ (i : List ℕ × ℕ × List ℕ) (o : ℕ × List ℕ). (o .0 ≡ behind (i .0) (i .1) (i .2)) × (o .1 ≡ placed (i .0) (i .1) (i .2)))

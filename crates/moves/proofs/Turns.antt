@@ -8,9 +8,9 @@ use borrow.Author.Tests.{le-leb, lt-leb, leb-true}
 use lib.Dec.{leb}
 use Rattle.laws.specs.Pick.{pick}
 use lib.ListN.{length, getD, set, take, drop, length-set, length-drop}
-use lib.Seq.{take-all, length-take-le, getD-take, getD-drop}
+use lib.Seq.{take-all, length-take-le}
 use Rattle.laws.specs.Written.{written}
-use Rattle.laws.proofs.Written.{written-none, written-turn, written-after, written-length}
+use Rattle.laws.proofs.Written.{written-none, written-turn, written-length}
 use Rattle.moves.specs.Moves.{placed, pulled}
 
 -- the first j bytes of xs stand in e at the offset
@@ -47,56 +47,7 @@ pub placed-is : (d : List ℕ) (at : ℕ) (xs : List ℕ) → at + length xs ≤
 unfolding placed
 placed-is d at xs h = simp (le-leb (at + length xs) (length d) h)
 
--- ---- forward within the slice
-and-false : (b : Bool) → b && false ≡ false
-and-false true = refl
-and-false false = refl
-
-module _ (d : List ℕ) (to from n : ℕ) where
-  pub pull-back : from < to → d ≡ pulled d to from n
-  unfolding pulled
-  pull-back h = simp (lt-leb to from h)
-
-  pub pull-short : length d < n → d ≡ pulled d to from n
-  unfolding pulled
-  pull-short h = simp (lt-leb (from + n) (length d) (omega arith), and-false)
-
-  pub pull-outside : n ≤ length d → length d - n < from → d ≡ pulled d to from n
-  unfolding pulled
-  pull-outside h l = simp (lt-leb (from + n) (length d) (omega arith), and-false)
-
-  module _ (hb : to ≤ from) (hs : n ≤ length d) (ho : from ≤ length d - n) where
-    part : length (take n (drop from d)) ≡ n
-    part = length-take-le n (drop from d) (omega (arith, length-drop from d))
-
-    -- what lies ahead is not yet written over
-    pub pull-one : (e : List ℕ) (j : ℕ) → j < n → Put d to (take n (drop from d)) e j
-        → Put d to (take n (drop from d)) (set e (to + j) (getD e (from + j) 0)) (j + 1)
-    pull-one e j l p =
-        let xs = take n (drop from d) in
-        let k = take j xs in
-        let ln : length xs ≡ n = part in
-        let lk : length k ≡ j = length-take-le j xs (omega arith) in
-        let ix : from + j ≡ to + length k + (from - to) = omega arith in
-        let v : getD e (from + j) 0 ≡ getD xs j 0 =
-        ap (λ (w : List ℕ). getD w (from + j) 0) (p .is)
-        ∙ ap (λ (i : ℕ). getD (written d to k) i 0) ix
-        ∙ written-after d to k (from - to) (omega arith)
-        ∙ ap (λ (i : ℕ). getD d i 0) (sym ix)
-        ∙ sym (getD-drop from d j 0)
-        ∙ sym (getD-take n (drop from d) j 0 l) in
-        record {
-          within = omega arith;
-          is = written-turn d e to xs j (getD e (from + j) 0) (omega arith) (omega arith) v (p .is);
-          same = length-set e (to + j) (getD e (from + j) 0) ∙ p .same;
-        }
-
-    pub pull-all : (e : List ℕ) (j : ℕ) → n ≤ j → Put d to (take n (drop from d)) e j → e ≡ pulled d to from n
-    unfolding pulled
-    pull-all e j l p =
-        let ln = part in
-        simp (le-leb to from hb, le-leb (from + n) (length d) (omega arith)) (p .is ∙ ap (written d to) (take-all j (take n (drop from d)) (omega arith)))
-
+-- ---- forward within the slice, as 01 has it of its store
 -- where there is room, they are moved
 pub pulled-is : (d : List ℕ) (to from n : ℕ) → to ≤ from → from + n ≤ length d → pulled d to from n ≡ written d to (take n (drop from d))
 unfolding pulled

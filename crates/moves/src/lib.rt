@@ -1,8 +1,7 @@
-// Bytes put into a lent slice: copied from another, zeros, or moved forward within it. Where they have no room there, nothing is
-// written.
+// Bytes put into a lent slice: copied from another, or zeros. Where they have no room there, nothing is written.
 ghost use mathlib.Core.Path.{_≡_};
 ghost use lib.ListN.{replicate};
-ghost use Rattle.moves.specs.Moves.{placed, behind, pulled};
+ghost use Rattle.moves.specs.Moves.{placed, behind};
 
 // The answer of a call that writes, in this crate and those above it: 01's number, and how many bytes of the output are written, none
 // where it is refused.
@@ -59,26 +58,6 @@ pub fn clear(dst: &mut [u8], at: usize, n: usize)
     let mut j = 0;
     while j < n {
         dst[at + j] = 0;
-        j += 1;
-    }
-}
-
-// The n bytes from index `from` on, moved to index `to` and on, which is no further back. All others stay.
-pub fn pull(dst: &mut [u8], to: usize, from: usize, n: usize)
-    ensures { λ _. ⌜ now (dst .exit) ≡ pulled (now (dst .entry)) to from n ⌝ }
-{
-    if from < to {
-        return;
-    }
-    if dst.len() < n {
-        return;
-    }
-    if dst.len() - n < from {
-        return;
-    }
-    let mut j = 0;
-    while j < n {
-        dst[to + j] = dst[from + j];
         j += 1;
     }
 }

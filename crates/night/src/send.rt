@@ -63,10 +63,9 @@ pub(crate) fn send(n: Sent, store: &mut [u8], out: &mut [u8]) -> Sent {
 
 // The units of each queue that are not wholly sent.
 fn unfinished(s: Sender) -> Three {
-    let f = s.front;
-    let a = f.q[0];
-    let b = f.q[1];
-    let c = f.q[2];
+    let a = s.q[0];
+    let b = s.q[1];
+    let c = s.q[2];
     Three {
         a: a.count,
         b: b.count,

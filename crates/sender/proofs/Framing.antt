@@ -7,8 +7,8 @@ use native.Mathlib.Nat.{mul-le-mul-right}
 use native.Mathlib.Omega.{arith}
 use borrow.Author.Tests.{eq-eqb, le-ltb, le-leb, eqb-true, ltb-false, not-false}
 use lib.Dec.{eqb, lit<}
-use lib.ListN.{length, take, drop, length-drop, length-append}
-use lib.Seq.{take-all, length-take-le}
+use lib.ListN.{length, getD, take, drop, length-drop, length-append}
+use lib.Seq.{take-all}
 use Rattle.laws.specs.Part.{partOf}
 use Rattle.laws.specs.Pick.{pick}
 use Rattle.laws.specs.Refuse.{refusedWith}
@@ -23,43 +23,43 @@ use Rattle.hand.specs.declared.Settings.{Settings}
 use Rattle.hand.specs.declared.Handed.{Handed}
 use Rattle.hand.proofs.Allowed.{allowed}
 use Rattle.hand.proofs.Answer.{hand-total}
-use Rattle.moves.specs.Moves.{pulled}
 use Rattle.moves.proofs.Parts.{tail-written}
-use Rattle.queue.specs.Queue.{unsent, broken, noUnits}
+use Rattle.queue.specs.Queue.{broken, noUnits}
 use Rattle.queue.specs.declared.Queue.{Queue}
 use Rattle.queue.proofs.Faults.{sound-ok, fine-bytes}
 use Rattle.queue.proofs.Keep.{none-sound}
+use Rattle.ring.specs.Ring.{turned}
+use Rattle.ring.proofs.Turned.{turned-length}
 use Rattle.row.specs.Row.{headLen, popped, packetAt, stepped, steps, outs, startOf, fits, rowFor, rowOut}
 use Rattle.row.specs.declared.Out.{Out}
 use Rattle.queue.proofs.Taken.{headLen-p}
 use Rattle.row.proofs.Steps.{Fit, fit-back, outs-length}
 use Rattle.sender.specs.State.{queueOf, indexOf, outOf, waitingOf}
-use Rattle.sender.specs.Frame.{handOf, rowAt, nulls, framePackets, endOf, endsOf, nextFrom, closed, closedAll, frameTests, framed, frameBytes}
+use Rattle.sender.specs.Frame.{handOf, rowAt, nulls, framePackets, endOf, endsOf, nextFrom, frameTests, framed, frameBytes}
+use Rattle.sender.specs.Rings.{ringOf, unrolled}
 use Rattle.sender.specs.Private.{Ready}
 use Rattle.sender.specs.Private as private
 use Rattle.sender.specs.declared.Front.{Front}
 use Rattle.sender.specs.Answers.{Framed}
 use Rattle.sender.specs.declared.Ends.{Ends}
 use Rattle.sender.proofs.Faults.{Fine, fine-of}
+use Rattle.sender.proofs.Unrolled.{part-length, ring-length, part-unrolled}
 
 -- ---- a row into the frame from an offset on
 row-into : (p id n : ℕ) (q : Queue) (index : ℕ) (region out : List ℕ) (at m : ℕ) → at ≤ length out → m ≡ length out - at
-    → Fit p id n q index (length region) 0 (length out - at) → (r : Out) (y : List ℕ)
-    → r ≡ rowFor p id n q index (length region) 0 (length (take m (drop at out))) → y ≡ rowOut p id n q index region 0 (take m (drop at out))
+    → Fit p id n q index (length region) (length out - at) → (r : Out) (y : List ℕ)
+    → r ≡ rowFor p id n q index (length region) (length (take m (drop at out))) → y ≡ rowOut p id n q index region (take m (drop at out))
     → (r ≡ steps p n (startOf q index)) × (take at out ++ (y ++ drop m (drop at out)) ≡ written out at (outs p id region n (startOf q index)))
 unfolding rowFor rowOut
 row-into p id n q index region out at m h em f r y er ey =
     let xs = outs p id region n (startOf q index) in
     let t : take m (drop at out) ≡ drop at out = take-all m (drop at out) (omega (arith, length-drop at out)) in
-    let b : fits p id n q index (length region) 0 (length out - at) ≡ true = fit-back p id n q index (length region) 0 (length out - at) f in
-    let c : fits p id n q index (length region) 0 (length (take m (drop at out))) ≡ true =
-    ap (λ (l : List ℕ). fits p id n q index (length region) 0 (length l)) t ∙ ap (fits p id n q index (length region) 0) (length-drop at out) ∙ b in
+    let b : fits p id n q index (length region) (length out - at) ≡ true = fit-back p id n q index (length region) (length out - at) f in
+    let c : fits p id n q index (length region) (length (take m (drop at out))) ≡ true =
+    ap (λ (l : List ℕ). fits p id n q index (length region) (length l)) t ∙ ap (fits p id n q index (length region)) (length-drop at out) ∙ b in
     let z : y ≡ written (drop at out) 0 xs =
     ey ∙ ap (λ (x : Bool). pick x (written (take m (drop at out)) 0 xs) (take m (drop at out))) c ∙ ap (λ (l : List ℕ). written l 0 xs) t in
     (er ∙ ap (λ (x : Bool). pick x (steps p n (startOf q index)) (startOf q index)) c, tail-written out y xs at m (omega arith) z)
-
-part-length : (store : List ℕ) (id : ℕ) → id < 3 → length store ≡ 12288 → length (partOf store id) ≡ 4096
-part-length store id h l = length-take-le 4096 (drop (id * 4096) store) (omega (arith, length-drop (id * 4096) store))
 
 -- a queue, and its index
 pub fine-queue : (p : ℕ) (s : Front) (id : ℕ) → id < 3 → Fine p s → (broken p (queueOf s id) ≡ false) × (indexOf s id ≤ 7)
@@ -68,22 +68,25 @@ fine-queue p s (suc zero) h f = (f .q1, f .i1)
 fine-queue p s (suc (suc zero)) h f = (f .q2, f .i2)
 fine-queue p s (suc (suc (suc id))) h f = absurd (omega arith)
 
-pub row-at-is : (p id n : ℕ) (s : Front) (store out : List ℕ) (at k m b : ℕ) → id < 3 → Ready p s (length store) → at + n * (p + 3) ≤ length out
+pub row-at-is : (p id n : ℕ) (s : Front) (starts store out : List ℕ) (at k m b : ℕ) → id < 3 → Ready p s (length store) → at + n * (p + 3) ≤ length out
     → k ≡ 4096 → m ≡ length out - at → b ≡ id * 4096 → (r : Out) (y : List ℕ)
-    → r ≡ rowFor p id n (queueOf s id) (indexOf s id) (length (take k (drop b store))) 0 (length (take m (drop at out)))
-    → y ≡ rowOut p id n (queueOf s id) (indexOf s id) (take k (drop b store)) 0 (take m (drop at out))
-    → (r ≡ endOf p s id n) × (take at out ++ (y ++ drop m (drop at out)) ≡ written out at (rowAt p s store id n))
+    → r ≡ rowFor p id n (queueOf s id) (indexOf s id) (length (take k (drop b store))) (length (take m (drop at out)))
+    → y ≡ rowOut p id n (queueOf s id) (indexOf s id) (turned (getD starts id 0) (take k (drop b store))) (take m (drop at out))
+    → (r ≡ endOf p s id n) × (take at out ++ (y ++ drop m (drop at out)) ≡ written out at (rowAt p s (unrolled starts store) id n))
 unfolding rowAt
-row-at-is p id n s store out at k m b hid k0 room ek em eb r y er ey =
+row-at-is p id n s starts store out at k m b hid k0 room ek em eb r y er ey =
+    let v = getD starts id 0 in
     let g : take k (drop b store) ≡ partOf store id = ap (λ (x : ℕ). take x (drop b store)) ek ∙ ap (λ (x : ℕ). take 4096 (drop x store)) eb in
-    let l : length (partOf store id) ≡ 4096 = part-length store id hid (k0 .whole) in
+    let l : length (ringOf starts store id) ≡ 4096 = ring-length starts store (k0 .whole) id hid in
     let f = fine-queue p s id hid (fine-of p s (k0 .fine)) in
     let i = f .1 in
     let u = fine-bytes p (queueOf s id) (f .0) in
-    row-into p id n (queueOf s id) (indexOf s id) (partOf store id) out at m (omega arith) em
+    let e =
+    row-into p id n (queueOf s id) (indexOf s id) (ringOf starts store id) out at m (omega arith) em
     (record { low = k0 .low; id-in = omega arith; index-in = omega arith; fine = f .0; inside = omega arith; fits-in = omega arith }) r y
-    (er ∙ ap (λ (x : List ℕ). rowFor p id n (queueOf s id) (indexOf s id) (length x) 0 (length (take m (drop at out)))) g)
-    (ey ∙ ap (λ (x : List ℕ). rowOut p id n (queueOf s id) (indexOf s id) x 0 (take m (drop at out))) g)
+    (er ∙ ap (λ (x : ℕ). rowFor p id n (queueOf s id) (indexOf s id) x (length (take m (drop at out)))) (ap length g ∙ sym (turned-length v (partOf store id))))
+    (ey ∙ ap (λ (x : List ℕ). rowOut p id n (queueOf s id) (indexOf s id) (turned v x) (take m (drop at out))) g) in
+    (e .0, e .1 ∙ ap (λ (x : List ℕ). written out at (outs p id x n (outOf s id))) (sym (part-unrolled starts store (k0 .whole) id hid)))
 
 -- ---- filler
 module _ (p i : ℕ) (region : List ℕ) (h : i < 8) where
@@ -106,19 +109,22 @@ module _ (p i : ℕ) (region : List ℕ) (h : i < 8) where
 
 pub filler-at-is : (p n : ℕ) (s : Front) (store out : List ℕ) (at m : ℕ) (q : Queue) → Ready p s (length store) → at + n * (p + 3) ≤ length out → m ≡ length out - at
     → q ≡ noUnits → (r : Out) (y : List ℕ)
-    → r ≡ rowFor p 3 n q (indexOf s 3) (length (take 4096 (drop 0 store))) 0 (length (take m (drop at out)))
-    → y ≡ rowOut p 3 n q (indexOf s 3) (take 4096 (drop 0 store)) 0 (take m (drop at out))
+    → r ≡ rowFor p 3 n q (indexOf s 3) (length (take 4096 (drop 0 store))) (length (take m (drop at out)))
+    → y ≡ rowOut p 3 n q (indexOf s 3) (turned 0 (take 4096 (drop 0 store))) (take m (drop at out))
     → (r .index ≡ (indexOf s 3 + n) % 8) × (take at out ++ (y ++ drop m (drop at out)) ≡ written out at (nulls p (indexOf s 3) n))
 filler-at-is p n s store out at m q k0 room em eq r y er ey =
-    let region = take 4096 (drop 0 store) in
-    let l : length region ≡ 4096 = part-length store 0 (lit< tt) (k0 .whole) in
+    let part = take 4096 (drop 0 store) in
+    let region = turned 0 part in
+    let l : length region ≡ 4096 = turned-length 0 part ∙ part-length store 0 (lit< tt) (k0 .whole) in
     let i = fine-of p s (k0 .fine) .i3 in
     let h : indexOf s 3 < 8 = omega arith in
     let k =
     row-into p 3 n noUnits (indexOf s 3) region out at m (omega arith) em
     (record { low = k0 .low; id-in = lit< tt; index-in = h; fine = sound-ok p noUnits (none-sound p); inside = let u = none-sound p .bytes in omega arith; fits-in = omega arith }) r y
-    (er ∙ ap (λ (x : Queue). rowFor p 3 n x (indexOf s 3) (length region) 0 (length (take m (drop at out)))) eq)
-    (ey ∙ ap (λ (x : Queue). rowOut p 3 n x (indexOf s 3) region 0 (take m (drop at out))) eq) in
+    (er
+    ∙ ap (λ (x : Queue). rowFor p 3 n x (indexOf s 3) (length part) (length (take m (drop at out)))) eq
+    ∙ ap (λ (x : ℕ). rowFor p 3 n noUnits (indexOf s 3) x (length (take m (drop at out)))) (sym (turned-length 0 part)))
+    (ey ∙ ap (λ (x : Queue). rowOut p 3 n x (indexOf s 3) region (take m (drop at out))) eq) in
     (ap (λ (o : Out). o .index) (k .0 ∙ null-steps p (indexOf s 3) region h n), k .1 ∙ ap (written out at) (null-outs p (indexOf s 3) region h n))
 
 -- ---- the rows one behind the other
@@ -220,27 +226,9 @@ module _ (g : Settings) (s : Front) (room size : ℕ) (f : private.Fit g s room 
     framed-is e ee r er =
         simp (er, ee, ep, ← hand-here)
 
-    pub closed-is : (store d : List ℕ) (e : Ends) → e ≡ endsOf p s (h .packets) (h .filler) → d ≡ closed (closed (closed store 0 (e .a)) 1 (e .b)) 2 (e .c)
-        → d ≡ closedAll (g .p) s (handOf g s .packets) store
-    unfolding closedAll endsOf
-    closed-is store d e ee ed =
-        ed
-        ∙ ap (λ (x : Ends). closed (closed (closed store 0 (x .a)) 1 (x .b)) 2 (x .c)) ee
-        ∙ ap (λ (k : ℕ). closed (closed (closed store 0 (endOf k s 0 (h .packets .a))) 1 (endOf k s 1 (h .packets .b))) 2 (endOf k s 2 (h .packets .c))) ep
-        ∙ ap (λ (x : Handed). closed (closed (closed store 0 (endOf (g .p) s 0 (x .packets .a))) 1 (endOf (g .p) s 1 (x .packets .b))) 2 (endOf (g .p) s 2 (x .packets .c))) hand-here
-
     pub bytes-are : (store out d : List ℕ) → d ≡ written out 0 (framePackets p s store (h .packets) (h .filler)) → d ≡ written out 0 (frameBytes g s store)
     unfolding frameBytes
     bytes-are store out d ed =
         ed
         ∙ ap (λ (k : ℕ). written out 0 (framePackets k s store (h .packets) (h .filler))) ep
         ∙ ap (λ (x : Handed). written out 0 (framePackets (g .p) s store (x .packets) (x .filler))) hand-here
-
--- ---- the store
-pub close-is : (store d : List ℕ) (id u : ℕ) (o : Out) → u ≡ unsent (o .q) → d ≡ pulled store (id * 4096) (id * 4096 + o .at) u → d ≡ closed store id o
-unfolding closed
-close-is store d id u o eu ed = ed ∙ ap (pulled store (id * 4096) (id * 4096 + o .at)) eu
-
-pub three-closed : (d d₁ d₂ d₃ : List ℕ) (e : Ends) → d₁ ≡ closed d 0 (e .a) → d₂ ≡ closed d₁ 1 (e .b) → d₃ ≡ closed d₂ 2 (e .c)
-    → d₃ ≡ closed (closed (closed d 0 (e .a)) 1 (e .b)) 2 (e .c)
-three-closed d d₁ d₂ d₃ e w₁ w₂ w₃ = w₃ ∙ ap (λ (x : List ℕ). closed x 2 (e .c)) (w₂ ∙ ap (λ (x : List ℕ). closed x 1 (e .b)) w₁)

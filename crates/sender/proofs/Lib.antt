@@ -2,7 +2,9 @@ pub mod Faults
 pub mod Loading
 pub mod Framing
 pub mod Counts
-pub mod KeptChecks
-pub mod KeptLoading
-pub mod KeptFraming
+pub mod Kept
+pub mod Unrolled
+pub mod Checks
+pub mod Entering
+pub mod Going
 pub mod Settled

@@ -1,24 +1,19 @@
 -- Loading a unit: the refusals by the way taken, and what the call answers (C5: accepted exactly if). Assumes nothing.
-use Prim.Native.Nat.{ℕ, _+_, _*_, _≤_, _<_}
+use Prim.Native.Nat.{ℕ, _+_, _≤_, _<_}
 use mathlib.Core.Path.{_≡_, sym, ap, _∙_}
-use mathlib.Core.List.{List}
 use mathlib.Core.Bool.{false, not}
 use native.Mathlib.Omega.{arith}
 use borrow.Author.Tests.{eq-eqb, ne-eqb, le-ltb, lt-leb, eqb-true, eqb-false, ltb-false, leb-false, not-false}
 use lib.Dec.{ltb, leb, eqb, lit<}
-use lib.ListN.{length}
 use Rattle.laws.specs.Refuse.{refusedWith}
-use Rattle.laws.specs.Written.{written}
 use Rattle.laws.proofs.Refuse.{free, accepted}
 use Rattle.hand.specs.Settings.{settingsFor}
 use Rattle.hand.specs.declared.Settings.{Settings}
 use Rattle.hand.proofs.Allowed.{allowed}
-use Rattle.moves.specs.Moves.{placed}
-use Rattle.moves.proofs.Turns.{placed-is}
 use Rattle.queue.specs.Queue.{unsent}
 use Rattle.laws.proofs.Flags.{or-false}
 use Rattle.sender.specs.State.{queueOf, brokenState}
-use Rattle.sender.specs.Load.{full, loadTests, placedIn}
+use Rattle.sender.specs.Load.{full, loadTests}
 use Rattle.sender.specs.Private.{Accepted}
 use Rattle.sender.specs.declared.Front.{Front}
 
@@ -81,13 +76,3 @@ module _ (g : Settings) (s : Front) (id n room : ℕ) where
           ),
         ),
       )
-
--- the unit's bytes behind the unsent ones of its queue
-pub place-is : (s : Front) (id u : ℕ) (unit store : List ℕ) → Accepted s id (length unit) (length store) → u ≡ unsent (queueOf s id)
-    → placed store (id * 4096 + u) unit ≡ placedIn s id unit store
-unfolding placedIn
-place-is s id u unit store a eu =
-    let f = a .fits in
-    let i = a .id-in in
-    let w = a .whole in
-    placed-is store (id * 4096 + u) unit (omega arith) ∙ ap (λ (k : ℕ). written store (id * 4096 + k) unit) eu

@@ -1,6 +1,6 @@
 -- What the private functions of this crate ask of their callers: no promise of a public call names it, and nothing here has to be believed. Assumes
 -- nothing.
-use Prim.Native.Nat.{ℕ, _+_, _-_, _*_, _≤_, _<_}
+use Prim.Native.Nat.{ℕ, _+_, _-_, _*_, _%_, _≤_, _<_}
 use mathlib.Core.List.{List, [], _∷_}
 use mathlib.Core.Path.{_≡_}
 use mathlib.Core.Bool.{Bool, false, not, _||_}
@@ -15,8 +15,10 @@ use Rattle.queue.specs.Queue.{unsent}
 use Rattle.queue.specs.declared.Queue.{Queue}
 use Rattle.sender.specs.State.{queueOf, brokenState}
 use Rattle.sender.specs.Kept.{miscounted}
+use Rattle.sender.specs.Rings.{frontOf, keptOf, strayed}
 use Rattle.sender.specs.declared.Front.{Front}
 use Rattle.sender.specs.declared.Sender.{Sender}
+use Rattle.sender.specs.declared.Ends.{Ends}
 
 -- ---- what the checks of a frame establish: for its rows, and for the whole of it
 pub record Ready (p : ℕ) (s : Front) (room : ℕ) : Type 0 where
@@ -39,17 +41,17 @@ pub record Accepted (s : Front) (id n room : ℕ) : Type 0 where
   pub fits : n + unsent (queueOf s id) ≤ 4096
   pub whole : room ≡ 12288
 
--- ---- the same with counts (02, E1)
+-- ---- the same with counts and starts (02, E1 and E9)
 -- refusal 17 in one test
 unfoldable pub faulty : ℕ → Sender → Bool
-faulty p s = miscounted p s || brokenState p (s .front)
+faulty p s = strayed s || (miscounted p (keptOf s) || brokenState p (frontOf s))
 
 -- the arrays of a state have their lengths
 pub record Shape (s : Sender) : Type 0 where
   pub counts : length (s .waiting) ≡ 3
-  pub eight-0 : length (queueOf (s .front) 0 .left) ≡ 8
-  pub eight-1 : length (queueOf (s .front) 1 .left) ≡ 8
-  pub eight-2 : length (queueOf (s .front) 2 .left) ≡ 8
+  pub eight-0 : length (queueOf (frontOf s) 0 .left) ≡ 8
+  pub eight-1 : length (queueOf (frontOf s) 1 .left) ≡ 8
+  pub eight-2 : length (queueOf (frontOf s) 2 .left) ≡ 8
 
 -- the refusals of a unit but for the last, 15: the room of its queue is looked at after them
 unfoldable pub unitTests : Settings → Sender → ℕ → ℕ → ℕ → List Test
@@ -64,14 +66,20 @@ noRoom q n bytes = leb 8 (q .count) || ltb 4096 (n + bytes)
 -- what an accepted unit meets
 pub record Entering (p : ℕ) (s : Sender) (id n room : ℕ) : Type 0 where
   pub low : 1 ≤ p
-  pub right : miscounted p s ≡ false
-  pub unit : Accepted (s .front) id n room
+  pub starts : strayed s ≡ false
+  pub right : miscounted p (keptOf s) ≡ false
+  pub unit : Accepted (frontOf s) id n room
 
 -- and a frame
 pub record Going (g : Settings) (s : Sender) (room size : ℕ) : Type 0 where
-  pub right : miscounted (g .p) s ≡ false
-  pub fit : Fit g (s .front) room size
+  pub starts : strayed s ≡ false
+  pub right : miscounted (g .p) (keptOf s) ≡ false
+  pub fit : Fit g (frontOf s) room size
 
 -- the counts w without what a frame has of each queue
 abbrev pub less : Three → Three → List ℕ
 less w got = (w .a - got .a) ∷ (w .b - got .b) ∷ (w .c - got .c) ∷ []
+
+-- the starts where the writing of a frame has ended that began at these
+abbrev pub onFrom : Three → Ends → List ℕ
+onFrom from e = ((from .a + e .a .at) % 4096) ∷ ((from .b + e .b .at) % 4096) ∷ ((from .c + e .c .at) % 4096) ∷ []

@@ -1,5 +1,5 @@
-// The sender of a shared stream (01, "Packets, queues and receiver"; 02, E1): three queues of units and filler. Its state is handed over
-// and back as a value; the bytes of the units stand in a store that is lent, 4,096 for each queue.
+// The sender of a shared stream (01, "Packets, queues and receiver"; 02, E1, E9): three queues of units and filler. Its state is handed
+// over and back as a value; the bytes of the units stand in a store that is lent, a ring of 4,096 for each queue.
 use hand::Settings;
 use hand::Three;
 use queue::Queue;
@@ -7,30 +7,34 @@ use row::Out;
 ghost use mathlib.Core.Path.{_≡_};
 ghost use Prim.Native.Nat.{_+_, _*_, _%_, _≤_, _<_};
 ghost use lib.ListN.{length, getD};
+ghost use Rattle.laws.specs.Part.{partOf};
 ghost use Rattle.laws.specs.Refuse.{refusedWith};
 ghost use Rattle.laws.specs.Written.{written};
 ghost use Rattle.hand.specs.Settings.{total};
-ghost use Rattle.sender.specs.State.{indexOf, fresh};
-ghost use Rattle.sender.specs.Load.{loaded};
-ghost use Rattle.sender.specs.Frame.{endOf, endsOf, nextFrom, rowAt, nulls, framePackets, closed, closedAll, handOf, frameBytes};
-ghost use Rattle.sender.specs.Kept.{countsOf, freshKept, keptLoadFor, keptStoreFor, keptFrameTests, keptFramed, keptFrameFor, keptStoreAfter, keptFrameOut};
-ghost use Rattle.sender.specs.Private.{Ready, faulty, Shape, unitTests, noRoom, Entering, Going, less};
+ghost use Rattle.ring.specs.Ring.{around};
+ghost use Rattle.sender.specs.State.{indexOf};
+ghost use Rattle.sender.specs.Frame.{endOf, endsOf, nextFrom, rowAt, nulls, framePackets, frameBytes};
+ghost use Rattle.sender.specs.Rings.{frontOf, unrolled, freshRings, strayed, ringLoadFor, ringStoreFor, ringFrameTests, ringFramed, ringFrameFor, ringFrameOut};
+ghost use Rattle.sender.specs.Private.{Ready, faulty, Shape, unitTests, noRoom, Going, less, onFrom};
 
-// The three queues, whose turn it is to get a spare, and the next continuity index of each id, filler last.
-// The unsent bytes of each queue stand at the front of its part of the store: hence the name.
-#[repr(C)]
+// 01's part of the state: the three queues, whose turn it is to get a spare, and the next continuity index of each id, filler last. In 01
+// the unsent bytes of each queue stand at the front of its part of the store: hence the name.
 pub struct Front {
     pub q: [Queue; 3],
     pub turn: usize,
     pub index: [u8; 4],
 }
 
-// What callers hold from one call to the next: 01's part, and beside it the packets that wait in each queue (E1), for whoever shows them.
-// Load and frame keep these counts, and refuse a state in which one of them is wrong.
+// What callers hold from one call to the next: 01's part, and beside it for each queue the packets that wait in it (E1), for whoever
+// shows them, and the place in its part of the store where its unsent bytes begin (E9). Load and frame keep both, and refuse a state in
+// which a count is wrong or a start is past 4,095.
 #[repr(C)]
 pub struct Sender {
-    pub front: Front,
+    pub q: [Queue; 3],
+    pub turn: usize,
+    pub index: [u8; 4],
     pub waiting: [u16; 3],
+    pub start: [u16; 3],
 }
 
 // The number, and the state after the call.
@@ -56,99 +60,6 @@ pub struct Ends {
     pub b: Out,
     pub c: Out,
     pub index: u8,
-}
-
-impl Front {
-    // No unit, turn 0, indexes 0.
-    fn fresh() -> Front
-        ensures { λ r. ⌜ r ≡ fresh ⌝ }
-    {
-        let a = Queue::fresh();
-        let q = [a, a, a];
-        let index = [0u8; 4];
-        Front {
-            q: q,
-            turn: 0,
-            index: index,
-        }
-    }
-
-    // n packets of queue id, from index at of the frame on.
-    fn row_at(self, p: u8, id: usize, n: usize, store: &[u8], out: &mut [u8], at: usize) -> Out
-        requires { ⌜ (id < 3) × Ready p self (length (now store)) × (at + n * (p + 3) ≤ length (now out)) ⌝ }
-        ensures { λ r. ⌜ r ≡ endOf p self id n ⌝ }
-        ensures { λ _. ⌜ now (out .exit) ≡ written (now (out .entry)) at (rowAt p self (now (store .entry)) id n) ⌝ }
-    {
-        let q = self.q[id];
-        let index = self.index[id];
-        let b = id * 4096;
-        row::row(
-            q,
-            index,
-            p,
-            id as u8,
-            n,
-            &store[b..b + 4096],
-            0,
-            &mut out[at..],
-        )
-    }
-
-    // n null packets, and the index of the next one. An empty queue with id 3 sends just these; of the store it reads nothing.
-    fn filler_at(self, p: u8, n: usize, store: &[u8], out: &mut [u8], at: usize) -> u8
-        requires { ⌜ Ready p self (length (now store)) × (at + n * (p + 3) ≤ length (now out)) ⌝ }
-        ensures { λ r. ⌜ r ≡ (indexOf self 3 + n) % 8 ⌝ }
-        ensures { λ _. ⌜ now (out .exit) ≡ written (now (out .entry)) at (nulls p (indexOf self 3) n) ⌝ }
-    {
-        let q = Queue::fresh();
-        let index = self.index[3];
-        let o = row::row(q, index, p, 3, n, &store[0..4096], 0, &mut out[at..]);
-        o.index
-    }
-
-    // The whole frame.
-    fn write_rows(self, p: u8, n: Three, filler: usize, store: &[u8], out: &mut [u8]) -> Ends
-        requires { ⌜ Ready p self (length (now store)) × ((total n + filler) * (p + 3) ≤ length (now out)) ⌝ }
-        ensures { λ r. ⌜ r ≡ endsOf p self n filler ⌝ }
-        ensures { λ _. ⌜ now (out .exit) ≡ written (now (out .entry)) 0 (framePackets p self (now (store .entry)) n filler) ⌝ }
-    {
-        let w = p as usize + 3;
-        let e0 = n.a * w;
-        let e1 = e0 + n.b * w;
-        let e2 = e1 + n.c * w;
-        let a = self.row_at(p, 0, n.a, store, out, 0);
-        let b = self.row_at(p, 1, n.b, store, out, e0);
-        let c = self.row_at(p, 2, n.c, store, out, e1);
-        let index = self.filler_at(p, filler, store, out, e2);
-        Ends {
-            a: a,
-            b: b,
-            c: c,
-            index: index,
-        }
-    }
-}
-
-// The unsent bytes of queue id, moved to the front of its part of the store.
-fn close(store: &mut [u8], id: usize, o: Out)
-    requires { ⌜ (id < 3) × (o .at ≤ 8190) ⌝ }
-    ensures { λ _. ⌜ now (store .exit) ≡ closed (now (store .entry)) id o ⌝ }
-{
-    let q = o.q;
-    let b = id * 4096;
-    moves::pull(store, b, b + o.at, q.unsent());
-}
-
-fn close_all(store: &mut [u8], e: Ends)
-    requires { ⌜ (e .a .at ≤ 8190) × (e .b .at ≤ 8190) × (e .c .at ≤ 8190) ⌝ }
-    ensures { λ _. ⌜ now (store .exit) ≡ closed (closed (closed (now (store .entry)) 0 (e .a)) 1 (e .b)) 2 (e .c) ⌝ }
-{
-    let a = e.a;
-    let b = e.b;
-    let c = e.c;
-    close(store, 0, a);
-    close(store, 1, b);
-    close(store, 2, c);
 }
 
 // The state after a frame.
@@ -179,12 +90,11 @@ fn known(q: Queue)
 fn shape(s: Sender)
     ensures { λ _. ⌜ Shape s ⌝ }
 {
-    let f = s.front;
-    let a = f.q[0];
+    let a = s.q[0];
     known(a);
-    let b = f.q[1];
+    let b = s.q[1];
     known(b);
-    let c = f.q[2];
+    let c = s.q[2];
     known(c);
 }
 
@@ -199,7 +109,24 @@ fn is_full(q: Queue, n: usize, bytes: usize) -> bool
     4096 < n + bytes
 }
 
-// Stored counts as numbers.
+// The place behind `bytes` unsent ones of a ring.
+fn behind(start: u16, bytes: usize) -> usize
+    requires { ⌜ bytes ≤ 524280 ⌝ }
+    ensures { λ r. ⌜ (r ≡ (start + bytes) % 4096) × (r < 4096) ⌝ }
+{
+    (start as usize + bytes) % 4096
+}
+
+// The unit's bytes into the ring of queue id, from place at on.
+fn put_in(unit: &[u8], store: &mut [u8], id: usize, at: usize)
+    requires { ⌜ (id < 3) × (length (now store) ≡ 12288) × (at < 4096) × (length (now unit) ≤ 4096) ⌝ }
+    ensures { λ _. ⌜ now (store .exit) ≡ written (now (store .entry)) (id * 4096) (around (partOf (now (store .entry)) id) at (now (unit .entry))) ⌝ }
+{
+    let b = id * 4096;
+    ring::copy_in(unit, &mut store[b..b + 4096], at);
+}
+
+// Stored counts, or starts, as numbers.
 fn three(w: [u16; 3]) -> Three
     ensures { λ r. ⌜ (r .a ≡ getD w 0 0) × (r .b ≡ getD w 1 0) × (r .c ≡ getD w 2 0) ⌝ }
 {
@@ -221,37 +148,74 @@ fn less(w: Three, got: Three) -> [u16; 3]
     r
 }
 
+// The starts after a frame that began at these.
+fn on(from: Three, e: Ends) -> [u16; 3]
+    requires { ⌜ (from .a ≤ 4095) × (from .b ≤ 4095) × (from .c ≤ 4095) × (e .a .at ≤ 8190) × (e .b .at ≤ 8190) × (e .c .at ≤ 8190) ⌝ }
+    ensures { λ r. ⌜ r ≡ onFrom from e ⌝ }
+{
+    let a = e.a;
+    let b = e.b;
+    let c = e.c;
+    let x = ((from.a + a.at) % 4096) as u16;
+    let y = ((from.b + b.at) % 4096) as u16;
+    let z = ((from.c + c.at) % 4096) as u16;
+    let r = [x, y, z];
+    r
+}
+
 impl Sender {
-    // No unit, nothing waits, turn 0, indexes 0.
+    // No unit, nothing waits, turn 0, indexes 0, starts 0.
     pub fn fresh() -> Sender
-        ensures { λ r. ⌜ r ≡ freshKept ⌝ }
+        ensures { λ r. ⌜ r ≡ freshRings ⌝ }
     {
-        let front = Front::fresh();
+        let a = Queue::fresh();
+        let q = [a, a, a];
+        let index = [0u8; 4];
         let waiting = [0u16; 3];
+        let start = [0u16; 3];
         Sender {
-            front: front,
+            q: q,
+            turn: 0,
+            index: index,
             waiting: waiting,
+            start: start,
         }
     }
 
-    // One of the faults of refusal 17, a wrong count among them. Each queue's units are gone through once.
+    // One of the starts is past 4,095.
+    fn is_stray(self) -> bool
+        ensures { λ r. ⌜ r ≡ strayed self ⌝ }
+    {
+        let start = self.start;
+        if 4095 < start[0] {
+            return true;
+        }
+        if 4095 < start[1] {
+            return true;
+        }
+        4095 < start[2]
+    }
+
+    // One of the faults of refusal 17, a wrong count and a start past 4,095 among them. Each queue's units are gone through once.
     fn is_faulty(self, p: u8) -> bool
         ensures { λ r. ⌜ r ≡ faulty p self ⌝ }
     {
+        if self.is_stray() {
+            return true;
+        }
         let w = self.waiting;
-        let f = self.front;
         let mut id: usize = 0;
         while id < 3 {
-            let q = f.q[id];
+            let q = self.q[id];
             if q.is_wrong(p, w[id]) {
                 return true;
             }
             id += 1;
         }
-        if 2 < f.turn {
+        if 2 < self.turn {
             return true;
         }
-        let index = f.index;
+        let index = self.index;
         if 7 < index[0] {
             return true;
         }
@@ -293,22 +257,11 @@ impl Sender {
         0
     }
 
-    // The counts with a unit of n bytes more in queue id, where it was accepted.
-    fn more(self, p: u8, id: usize, n: usize) -> [u16; 3]
-        requires { ⌜ Entering p self id n 12288 ⌝ }
-        ensures { λ r. ⌜ r ≡ countsOf p (loaded (self .front) id n) ⌝ }
-    {
-        shape(self);
-        let mut w = self.waiting;
-        w[id] += queue::packets(p, n as u16);
-        w
-    }
-
     // A unit enters queue id, or is refused and nothing changes. Refused with 13: settings. With 17: the state. With 1: a store of
     // another length than 12,288, a unit over 65,528 bytes. With 14: a unit that is empty or over 4,096, an id over 2. With 15: no room.
     pub fn load(self, settings: Settings, store: &mut [u8], id: usize, unit: &[u8]) -> Loaded
-        ensures answer { λ r. ⌜ r ≡ keptLoadFor settings self id (now (unit .entry)) (now (store .entry)) ⌝ }
-        ensures memory { λ _. ⌜ now (store .exit) ≡ keptStoreFor settings self id (now (unit .entry)) (now (store .entry)) ⌝ }
+        ensures answer { λ r. ⌜ r ≡ ringLoadFor settings self id (now (unit .entry)) (now (store .entry)) ⌝ }
+        ensures memory { λ _. ⌜ now (store .exit) ≡ ringStoreFor settings self id (now (unit .entry)) (now (store .entry)) ⌝ }
     {
         let n = unit.len();
         let number = self.load_number(settings, id, n, store.len());
@@ -318,8 +271,8 @@ impl Sender {
                 next: self,
             };
         }
-        let mut front = self.front;
-        let q = front.q[id];
+        let mut entered = self;
+        let q = entered.q[id];
         let bytes = q.unsent();
         if is_full(q, n, bytes) {
             return Loaded {
@@ -327,13 +280,12 @@ impl Sender {
                 next: self,
             };
         }
-        moves::copy(unit, store, id * 4096 + bytes);
+        let start = entered.start[id];
+        put_in(unit, store, id, behind(start, bytes));
+        shape(self);
         let r = q.pushed(n as u16);
-        front.q[id] = r;
-        let entered = Sender {
-            front: front,
-            waiting: self.more(settings.p as u8, id, n),
-        };
+        entered.q[id] = r;
+        entered.waiting[id] += queue::packets(settings.p as u8, n as u16);
         Loaded {
             number: 0,
             next: entered,
@@ -342,7 +294,7 @@ impl Sender {
 
     // Why a frame is refused; 0 where it is not.
     fn frame_number(self, settings: Settings, room: usize, size: usize) -> u32
-        ensures { λ r. ⌜ r ≡ refusedWith (keptFrameTests settings self room size) ⌝ }
+        ensures { λ r. ⌜ r ≡ refusedWith (ringFrameTests settings self room size) ⌝ }
     {
         let p = settings.p;
         if settings.check() != 0 {
@@ -360,25 +312,86 @@ impl Sender {
         0
     }
 
+    // n packets of queue id, from index at of the frame on.
+    fn row_at(self, p: u8, id: usize, n: usize, store: &[u8], out: &mut [u8], at: usize) -> Out
+        requires { ⌜ (id < 3) × Ready p (frontOf self) (length (now store)) × (at + n * (p + 3) ≤ length (now out)) ⌝ }
+        ensures { λ r. ⌜ r ≡ endOf p (frontOf self) id n ⌝ }
+        ensures { λ _. ⌜ now (out .exit) ≡ written (now (out .entry)) at (rowAt p (frontOf self) (unrolled (self .start) (now (store .entry))) id n) ⌝ }
+    {
+        let q = self.q[id];
+        let index = self.index[id];
+        let start = self.start[id];
+        let b = id * 4096;
+        row::row(
+            q,
+            index,
+            p,
+            id as u8,
+            n,
+            &store[b..b + 4096],
+            start as usize,
+            &mut out[at..],
+        )
+    }
+
+    // n null packets, and the index of the next one. An empty queue with id 3 sends just these; of the store it reads nothing.
+    fn filler_at(self, p: u8, n: usize, store: &[u8], out: &mut [u8], at: usize) -> u8
+        requires { ⌜ Ready p (frontOf self) (length (now store)) × (at + n * (p + 3) ≤ length (now out)) ⌝ }
+        ensures { λ r. ⌜ r ≡ (indexOf (frontOf self) 3 + n) % 8 ⌝ }
+        ensures { λ _. ⌜ now (out .exit) ≡ written (now (out .entry)) at (nulls p (indexOf (frontOf self) 3) n) ⌝ }
+    {
+        let q = Queue::fresh();
+        let index = self.index[3];
+        let o = row::row(q, index, p, 3, n, &store[0..4096], 0, &mut out[at..]);
+        o.index
+    }
+
+    // The whole frame.
+    fn write_rows(self, p: u8, n: Three, filler: usize, store: &[u8], out: &mut [u8]) -> Ends
+        requires { ⌜ Ready p (frontOf self) (length (now store)) × ((total n + filler) * (p + 3) ≤ length (now out)) ⌝ }
+        ensures { λ r. ⌜ r ≡ endsOf p (frontOf self) n filler ⌝ }
+        ensures { λ _. ⌜ now (out .exit) ≡ written (now (out .entry)) 0 (framePackets p (frontOf self) (unrolled (self .start) (now (store .entry))) n filler) ⌝ }
+    {
+        let w = p as usize + 3;
+        let e0 = n.a * w;
+        let e1 = e0 + n.b * w;
+        let e2 = e1 + n.c * w;
+        let a = self.row_at(p, 0, n.a, store, out, 0);
+        let b = self.row_at(p, 1, n.b, store, out, e0);
+        let c = self.row_at(p, 2, n.c, store, out, e1);
+        let index = self.filler_at(p, filler, store, out, e2);
+        Ends {
+            a: a,
+            b: b,
+            c: c,
+            index: index,
+        }
+    }
+
     // A frame, where the checks have passed. It is handed out by the stored counts.
-    fn run(self, settings: Settings, store: &mut [u8], out: &mut [u8]) -> Framed
+    fn run(self, settings: Settings, store: &[u8], out: &mut [u8]) -> Framed
         requires { ⌜ Going settings self (length (now store)) (length (now out)) ⌝ }
-        ensures { λ r. ⌜ r ≡ keptFramed settings self ⌝ }
-        ensures { λ _. ⌜ now (store .exit) ≡ closedAll (settings .p) (self .front) (handOf settings (self .front) .packets) (now (store .entry)) ⌝ }
-        ensures { λ _. ⌜ now (out .exit) ≡ written (now (out .entry)) 0 (frameBytes settings (self .front) (now (store .entry))) ⌝ }
+        ensures { λ r. ⌜ r ≡ ringFramed settings self ⌝ }
+        ensures { λ _. ⌜ now (out .exit) ≡ written (now (out .entry)) 0 (frameBytes settings (frontOf self) (unrolled (self .start) (now (store .entry)))) ⌝ }
     {
         let p = settings.p as u8;
-        let front = self.front;
         shape(self);
         let stored = self.waiting;
+        let start = self.start;
         let w = three(stored);
-        let h = settings.hand_out(w, front.turn);
+        let from = three(start);
+        let h = settings.hand_out(w, self.turn);
         let got = h.packets;
-        let e = front.write_rows(p, got, h.filler, store, out);
-        close_all(store, e);
+        let e = self.write_rows(p, got, h.filler, store, out);
+        let f = next_state(e, h.turn);
+        let q = f.q;
+        let index = f.index;
         let next = Sender {
-            front: next_state(e, h.turn),
+            q: q,
+            turn: f.turn,
+            index: index,
             waiting: less(w, got),
+            start: on(from, e),
         };
         Framed {
             number: 0,
@@ -389,12 +402,11 @@ impl Sender {
         }
     }
 
-    // Writes a frame to the front of the output, or is refused and nothing changes. Refused with 13: settings. With 17: the state. With
-    // 1: a store of another length than 12,288. Last with 1: an output under N (p + 3) bytes.
-    pub fn frame(self, settings: Settings, store: &mut [u8], out: &mut [u8]) -> Framed
-        ensures answer { λ r. ⌜ r ≡ keptFrameFor settings self (now (store .entry)) (now (out .entry)) ⌝ }
-        ensures memory { λ _. ⌜ now (store .exit) ≡ keptStoreAfter settings self (now (store .entry)) (now (out .entry)) ⌝ }
-        ensures output { λ _. ⌜ now (out .exit) ≡ keptFrameOut settings self (now (store .entry)) (now (out .entry)) ⌝ }
+    // Writes a frame to the front of the output, or is refused and nothing changes; the store is only read. Refused with 13: settings. With
+    // 17: the state. With 1: a store of another length than 12,288. Last with 1: an output under N (p + 3) bytes.
+    pub fn frame(self, settings: Settings, store: &[u8], out: &mut [u8]) -> Framed
+        ensures answer { λ r. ⌜ r ≡ ringFrameFor settings self (now (store .entry)) (now (out .entry)) ⌝ }
+        ensures output { λ _. ⌜ now (out .exit) ≡ ringFrameOut settings self (now (store .entry)) (now (out .entry)) ⌝ }
     {
         let number = self.frame_number(settings, store.len(), out.len());
         if number != 0 {

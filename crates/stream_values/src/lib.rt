@@ -5,7 +5,6 @@ use queue::Queue;
 use receiver::Link;
 use receiver::Receiver;
 use saying::Said;
-use sender::Front;
 use sender::Sender;
 
 fn half(body: &[u8], at: usize, more: usize) -> u16 {
@@ -13,14 +12,14 @@ fn half(body: &[u8], at: usize, more: usize) -> u16 {
 }
 
 fn queue_at(body: &[u8], at: usize) -> Queue {
-    let l0 = half(body, at, 18);
-    let l1 = half(body, at, 20);
-    let l2 = half(body, at, 22);
-    let l3 = half(body, at, 24);
-    let l4 = half(body, at, 26);
-    let l5 = half(body, at, 28);
-    let l6 = half(body, at, 30);
-    let l7 = half(body, at, 32);
+    let l0 = half(body, at, 20);
+    let l1 = half(body, at, 22);
+    let l2 = half(body, at, 24);
+    let l3 = half(body, at, 26);
+    let l4 = half(body, at, 28);
+    let l5 = half(body, at, 30);
+    let l6 = half(body, at, 32);
+    let l7 = half(body, at, 34);
     let left = [l0, l1, l2, l3, l4, l5, l6, l7];
     Queue {
         left,
@@ -37,23 +36,28 @@ fn index_at(body: &[u8], at: usize) -> [u8; 4] {
     [a, b, c, d]
 }
 
+// A number of 16 bits of each queue, which stands so many bytes from where the queue begins.
+fn halves(body: &[u8], more: usize) -> [u16; 3] {
+    let a = half(body, 0, more);
+    let b = half(body, 36, more);
+    let c = half(body, 72, more);
+    [a, b, c]
+}
+
 // The sender at the front of a body.
 fn sender_in(body: &[u8]) -> Sender {
     let a = queue_at(body, 0);
-    let b = queue_at(body, 34);
-    let c = queue_at(body, 68);
+    let b = queue_at(body, 36);
+    let c = queue_at(body, 72);
     let q = [a, b, c];
-    let index = index_at(body, 110);
-    let front = Front {
+    let index = index_at(body, 116);
+    Sender {
         q,
-        turn: fields::read64(body, 102) as usize,
+        turn: fields::read64(body, 108) as usize,
         index,
-    };
-    let wa = half(body, 0, 16);
-    let wb = half(body, 34, 16);
-    let wc = half(body, 68, 16);
-    let waiting = [wa, wb, wc];
-    Sender { front, waiting }
+        waiting: halves(body, 16),
+        start: halves(body, 18),
+    }
 }
 
 fn four(said: Said, a: u16, b: u16, c: u16, d: u16) -> Said {
@@ -66,19 +70,20 @@ fn tell_left(said: Said, l: [u16; 8]) -> Said {
     four(said, l[4], l[5], l[6], l[7])
 }
 
-// A queue, with the count that is stored for it.
-fn tell_queue(said: Said, q: Queue, waiting: u16) -> Said {
+// A queue, with the count that is stored for it and the start of its ring.
+fn tell_queue(said: Said, q: Queue, waiting: u16, start: u16) -> Said {
     let left = q.left;
     let said = saying::three(said, q.count as u64, q.sent as u64, waiting as u64);
-    tell_left(said, left)
+    tell_left(saying::value(said, start as u64), left)
 }
 
-fn tell_queues(said: Said, q: [Queue; 3], w: [u16; 3]) -> Said {
+fn tell_queues(said: Said, q: [Queue; 3], w: [u16; 3], start: [u16; 3]) -> Said {
     let a = q[0];
     let b = q[1];
     let c = q[2];
-    let said = tell_queue(said, a, w[0]);
-    tell_queue(tell_queue(said, b, w[1]), c, w[2])
+    let said = tell_queue(said, a, w[0], start[0]);
+    let said = tell_queue(said, b, w[1], start[1]);
+    tell_queue(said, c, w[2], start[2])
 }
 
 fn wide(x: u8) -> u16 {
@@ -90,12 +95,12 @@ fn tell_index(said: Said, i: [u8; 4]) -> Said {
 }
 
 fn tell_sender(said: Said, s: Sender) -> Said {
-    let f = s.front;
-    let q = f.q;
-    let index = f.index;
+    let q = s.q;
+    let index = s.index;
     let waiting = s.waiting;
-    let said = tell_queues(said, q, waiting);
-    tell_index(saying::value(said, f.turn as u64), index)
+    let start = s.start;
+    let said = tell_queues(said, q, waiting, start);
+    tell_index(saying::value(said, s.turn as u64), index)
 }
 
 fn link_at(body: &[u8], at: usize) -> Link {

@@ -200,16 +200,16 @@ mod tests {
         }
     }
 
-    /// Every run adds up (document 02, E1 and E11), and 1,000 random cases of a call have at least so many packets
-    /// in the balance, accepted calls at a sender, frames that two queues share their spares in, and runs of two
-    /// such frames or more.
+    /// Every run adds up (document 02, E1, E9 and E11), and 1,000 random cases of a call have at least so many packets
+    /// in the balance, accepted calls at a sender, calls in both layouts of its store, frames that two queues share
+    /// their spares in, and runs of two such frames or more.
     #[test]
     fn every_run_adds_up() {
         for (code, least) in [
-            (34, [0, 0, 300, 0]),
-            (35, [0, 6_000, 5_000, 800]),
-            (36, [8_000, 0, 0, 0]),
-            (37, [80_000, 10_000, 4_000, 400]),
+            (34, [0, 0, 0, 300, 0]),
+            (35, [0, 6_000, 8_000, 5_000, 800]),
+            (36, [8_000, 0, 0, 0, 0]),
+            (37, [80_000, 10_000, 12_000, 4_000, 400]),
         ] {
             let call = CALLS.iter().find(|call| call.code == code).unwrap();
             let mut random = Random::new(9);
@@ -225,11 +225,12 @@ mod tests {
             let Added {
                 packets,
                 counts,
+                layouts,
                 frames,
                 stretches,
                 ..
             } = added[1];
-            let found = [packets, counts, frames, stretches];
+            let found = [packets, counts, layouts, frames, stretches];
             let mut both = found.iter().zip(&least);
             assert!(both.all(|(found, least)| found >= least), "{found:?}");
         }

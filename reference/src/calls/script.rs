@@ -1,7 +1,8 @@
 //! Call 35: a sender that is handed units and asked for frames, step by step (document 01, "Packets, queues
-//! and receiver"; document 02, E1).
+//! and receiver"; document 02, E1 and E9).
 
 mod counts;
+mod rings;
 mod senders;
 
 use self::senders::{any, state, BROKEN};
@@ -20,7 +21,7 @@ use crate::refusal::{Refusal, LONGEST_INPUT};
 use crate::runs::Sending;
 use crate::sender::{HandOut, Sender, Settings, QUEUE_BYTES, STORE_BYTES};
 
-/// Its values have no names: each step has eight, and the sender 38.
+/// Its values have no names: each step has eight, and the sender 41.
 pub const SCRIPT: Call = Call {
     code: 35,
     name: "sender script",
@@ -110,7 +111,8 @@ fn answer(body: &mut Reader) -> Option<Answer> {
 fn values_of(sender: &Sender) -> Vec<u64> {
     let mut values = Vec::new();
     for queue in &sender.queues {
-        values.extend([queue.units, queue.sent, u64::from(queue.waiting)]);
+        values.extend([queue.units, queue.sent]);
+        values.extend([queue.waiting, queue.start].map(u64::from));
         values.extend(queue.left.map(u64::from));
     }
     values.push(sender.turn);
@@ -208,6 +210,7 @@ const FAULTS: &[Fault<Script>] = &[
     |script, random| spoil(script, random, 0..3),             // 17
     |script, random| spoil(script, random, 3..8),             // 17
     |script, random| spoil(script, random, 8..13),            // 17
+    |script, random| spoil(script, random, 13..14),           // 17
     no_multiple,                                              // 17
     |script, random| {
         let p = script.p();
@@ -425,9 +428,10 @@ fn fixed(random: &mut Random) -> Vec<Vec<u8>> {
             }
         }
     }
-    // Changes of all but p, wrong counts, and changes of p.
+    // Changes of all but p, wrong counts, changes of p, and rings.
     list.extend((0..6).map(|_| busy(random)));
     list.extend(counts::fixed(random));
+    list.extend(rings::fixed(random));
     // The order of the refusals.
     for end in ends {
         let good = Script::new(random, vec![end]);
@@ -451,10 +455,11 @@ fn fixed(random: &mut Random) -> Vec<Vec<u8>> {
 }
 
 fn random_script(random: &mut Random) -> Vec<u8> {
-    let mut script = match random.below(10) {
+    let mut script = match random.below(11) {
         0 => changing(random),
         1 => return counts::random_change(random).body(),
         2..=5 => busy(random),
+        6 => return rings::random_round(random).body(),
         _ => steady(random),
     };
     if random.one_in(3) {
@@ -464,7 +469,8 @@ fn random_script(random: &mut Random) -> Vec<u8> {
     }
     match random.below(12) {
         0 | 1 => counts::miscounted(random, script).body(),
-        2..=5 => faults::some(script, FAULTS, random).body(),
+        2 => rings::random_past(random, script).body(),
+        3..=5 => faults::some(script, FAULTS, random).body(),
         _ => script.body(),
     }
 }
@@ -499,7 +505,7 @@ mod tests {
         }
     }
 
-    /// Two loads, one of them refused, and a frame: eight values each, then the sender's 38.
+    /// Two loads, one of them refused, and a frame: eight values each, then the sender's 41.
     #[test]
     fn values_of_a_script() {
         let mut random = Random::new(2);
@@ -520,8 +526,9 @@ mod tests {
         ];
         let sum = frame.iter().map(|byte| u64::from(*byte)).sum();
         expected.extend([0, 0, 2, 0, 2, 1, u64::from(crc16(&frame)), sum]);
-        expected.extend([0; 33]);
+        expected.extend([0; 36]);
         expected.extend([2, 0, 2, 0, 1]);
+        expected[24 + 12 + 3] = 6;
         assert_eq!(answer.values, expected);
     }
 
@@ -529,6 +536,6 @@ mod tests {
     fn no_step_at_all() {
         let script = Script::new(&mut Random::new(3), vec![]);
         let answer = answered(&script);
-        assert_eq!((answer.number, answer.values), (0, vec![0; 38]));
+        assert_eq!((answer.number, answer.values), (0, vec![0; 41]));
     }
 }

@@ -1,5 +1,5 @@
 //! Call 37: whole runs from a fresh sender to a fresh receiver (document 01, "Packets, queues and receiver";
-//! document 02, E5).
+//! document 02, E5 and E9).
 
 use super::settings::{self, Set};
 use super::Call;
@@ -234,8 +234,36 @@ fn limits(random: &mut Random, settings: Settings) -> Vec<Run> {
     list
 }
 
-fn fixed(random: &mut Random) -> Vec<Vec<u8>> {
+/// Loads on one queue with a frame after each.
+fn pairs(random: &mut Random, settings: Settings, id: u64, lengths: &[usize]) -> Run {
+    let mut steps = Vec::new();
+    for length in lengths {
+        steps.extend([load(random, id, *length), frame()]);
+    }
+    Run { settings, steps }
+}
+
+/// Runs that go round the rings of their queues (document 02, E9), with frames of one queue alone.
+fn rounds(random: &mut Random) -> Vec<Run> {
     let mut list = Vec::new();
+    for (id, p, packets, lengths) in [
+        (0, 255, 12, vec![4_096, 3_000, 1_000, 97]),
+        (1, 255, 12, vec![4_096, 3_000, 1_000, 97]),
+        (2, 255, 12, vec![4_096, 3_000, 1_000, 97]),
+        (0, 255, 31, vec![4_096; 12]),
+        (1, 127, 63, vec![4_095; 6]),
+        (2, 4, 1_170, vec![4_096, 4_093, 4_096, 4_090, 5, 12]),
+        (2, 1, 2_047, vec![4_096, 2_047, 2_046, 2_047, 3]),
+    ] {
+        let mut settings = settings::of(p, packets, [0; 3], [1; 3]);
+        (settings.shares[id], settings.ceilings[id]) = (packets, packets);
+        list.push(pairs(random, settings, id as u64, &lengths));
+    }
+    list
+}
+
+fn fixed(random: &mut Random) -> Vec<Vec<u8>> {
+    let mut list = rounds(random);
     for settings in [
         settings::example(),
         settings::of(1, 1, [0; 3], [1; 3]),
@@ -355,9 +383,28 @@ fn busy(random: &mut Random) -> Run {
     Run { settings, steps }
 }
 
+/// Few queues, long units, and frames that take nearly all of them.
+fn random_round(random: &mut Random) -> Run {
+    let p = random.pick(&[4, 61, 100, 127, 254, 255]);
+    let most = 8_190 / (p + FRAMING as u64);
+    let packets = random.pick(&[most, most, most / 2]);
+    let settings = settings::of(p, packets, [0; 3], [packets; 3]);
+    let ids: Vec<u64> = (0..1 + random.below(2)).map(|_| random.below(3)).collect();
+    let mut steps = Vec::new();
+    for _ in 0..3 + random.below(6) {
+        let drawn = 1 + random.below(QUEUE_BYTES as u64) as usize;
+        let length = random.pick(&[QUEUE_BYTES, QUEUE_BYTES - 1, drawn, drawn, drawn / 2 + 1]);
+        let id = random.pick(&ids);
+        steps.extend([load(random, id, length), frame()]);
+    }
+    Run { settings, steps }
+}
+
 fn random_run(random: &mut Random) -> Vec<u8> {
-    if random.one_in(5) {
-        return busy(random).body();
+    match random.below(20) {
+        0..=3 => return busy(random).body(),
+        4 => return random_round(random).body(),
+        _ => {}
     }
     let settings = drawn_settings(random);
     let count = match random.below(10) {
@@ -391,6 +438,7 @@ fn random_run(random: &mut Random) -> Vec<u8> {
 #[cfg(test)]
 mod tests {
     use super::*;
+    use crate::sender::QUEUES;
 
     fn answered(run: &Run) -> Answer {
         answer(&mut Reader::new(&run.body())).unwrap()
@@ -435,6 +483,40 @@ mod tests {
         }
     }
 
+    /// Bytes that go into each queue.
+    fn loaded(run: &Run) -> [usize; QUEUES] {
+        let (mut sending, mut loaded) = (Sending::fresh(), [0; QUEUES]);
+        for step in &run.steps {
+            if step.kind == FRAME {
+                let _ = sending.frame(&run.settings, &mut [0; 8_190]);
+                continue;
+            }
+            let unit = step.unit.bytes();
+            if sending.load(&run.settings, step.id, &unit).is_ok() {
+                loaded[step.id as usize] += unit.len();
+            }
+        }
+        loaded
+    }
+
+    /// Each queue's ring is gone round, in fixed cases and in some of the random ones.
+    #[test]
+    fn rings_are_gone_round() {
+        let mut random = Random::new(5);
+        let fixed = fixed(&mut random);
+        let drawn: Vec<_> = (0..500).map(|_| random_run(&mut random)).collect();
+        for (bodies, least) in [(fixed, 2), (drawn, 10)] {
+            let mut rounds = [0; QUEUES];
+            for body in bodies {
+                let run = Run::read(&mut Reader::new(&body)).unwrap();
+                for (count, bytes) in rounds.iter_mut().zip(loaded(&run)) {
+                    *count += usize::from(bytes > QUEUE_BYTES);
+                }
+            }
+            assert!(rounds.iter().all(|count| *count >= least), "{rounds:?}");
+        }
+    }
+
     /// Where an index is passed over, the sum shows it: the open bytes of both ids, in one frame.
     #[test]
     fn what_is_dropped_is_added_up() {
@@ -446,8 +528,9 @@ mod tests {
         }
         let dropped = [false, true].map(|lost| {
             if lost {
-                let indexes = &mut ends.sending.sender.indexes;
-                indexes.iter_mut().for_each(|index| *index += 1);
+                let mut sender = ends.sending.sender;
+                sender.indexes = sender.indexes.map(|index| index + 1);
+                ends.sending = Sending::new(sender, ends.sending.store.clone());
             }
             ends.frame(&settings).unwrap().values()
         });

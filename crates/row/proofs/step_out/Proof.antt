@@ -1,6 +1,6 @@
 -- `row::step_out` meets its contract. Assumes nothing.
 use borrow.Author.Needs.{needs}
-use Rattle.row.proofs.Steps.{step-is}
+use Rattle.row.proofs.Rings.{ring-step}
 use Rattle.row.proofs.step_out.Statement.{statement}
 use Rattle.row.proofs.step_out.Tie as tie
 
@@ -13,17 +13,20 @@ wide-requires c κs = search needs
 head-len-requires : tie.Need-head-len-requires
 head-len-requires c κs = search needs
 
+place-requires : tie.Need-place-requires
+place-requires c κs = search needs
+
 write-from-requires : tie.Need-write-from-requires
 write-from-requires c κs = search needs
 
 pop-requires : tie.Need-pop-requires
 pop-requires c κs = search needs
 
-add-t18 : tie.Need-add-t18
-add-t18 c = search needs
+add-t14 : tie.Need-add-t14
+add-t14 c = search needs
 
-add-t19 : tie.Need-add-t19
-add-t19 c = search needs
+add-t21 : tie.Need-add-t21
+add-t21 c = search needs
 
 same-length : tie.Need-same-length
 same-length c = search needs
@@ -31,11 +34,12 @@ same-length c = search needs
 returns : tie.Need-returns
 returns c =
     let w = c .before .before .before in
-    let h = w .before .before .before in
+    let l = w .before .before .before in
+    let h = l .before in
     let f = h .before .before in
     let g = f .before .before .before .before in
-    step-is _ _ _ _ _ (g .args .o) (g .args .region .now) (g .args .dst .now) _ _ (f .first-left .ensures) (g .pre .2) (g .pre .3) (g .pre .1) (g .pre .0 .index)
-    (h .before .wide .ensures .0) (h .head-len .ensures .0) (g .pre .0 .far) (c .pop .ensures) (g .pre .4) (w .write-from .ensures)
+    ring-step _ _ _ _ _ (g .args .start) (g .args .o) (g .args .ring .now) (g .args .dst .now) _ _ _ (g .pre .0) (g .pre .1) (f .first-left .ensures) (g .pre .3) (g .pre .4) (g .pre .2)
+    (h .before .wide .ensures .0) (h .head-len .ensures .0) (h .head-len .ensures .2) (c .pop .ensures) (g .pre .5) (l .place .ensures .0) (w .write-from .ensures)
 
 pub step-out-spec : {M : Type 1} → statement M
 step-out-spec =
@@ -44,9 +48,10 @@ step-out-spec =
     first-left-requires
     wide-requires
     head-len-requires
+    place-requires
     write-from-requires
     pop-requires
-    add-t18
-    add-t19
+    add-t14
+    add-t21
     same-length
     returns)

@@ -1,6 +1,6 @@
 -- `sender::is_full` meets its contract. Assumes nothing.
 use borrow.Author.Needs.{needs}
-use Rattle.sender.proofs.KeptLoading.{room-eight, room-rest}
+use Rattle.sender.proofs.Entering.{room-eight, room-rest}
 use Rattle.sender.proofs.is_full.Statement.{statement}
 use Rattle.sender.proofs.is_full.Tie as tie
 

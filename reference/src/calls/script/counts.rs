@@ -80,7 +80,7 @@ fn wrong_counts(random: &mut Random, settings: Settings) -> Vec<Script> {
 }
 
 /// A unit too many, and in all places something left.
-fn nine_units(script: &mut Script, random: &mut Random) {
+pub fn nine_units(script: &mut Script, random: &mut Random) {
     let queue = any(&mut script.sender, random);
     queue.left = queue.left.map(|left| left.clamp(1, 9));
     queue.units = 9;
@@ -258,7 +258,7 @@ mod tests {
 
     fn numbers(script: &Script) -> Vec<u8> {
         let values = answered(script).values;
-        let steps = values[..values.len() - 38].chunks(8);
+        let steps = values[..values.len() - 41].chunks(8);
         steps.map(|step| step[0] as u8).collect()
     }
 

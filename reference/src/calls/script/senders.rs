@@ -1,5 +1,5 @@
 //! Senders for the cases of call 35: states that are allowed, and what can be wrong in one (document 01, "Numbers
-//! given back": 17; document 02, E1).
+//! given back": 17; document 02, E1 and E9).
 
 use crate::faults::Fault;
 use crate::packet::LARGEST_P;
@@ -17,9 +17,43 @@ pub fn state(random: &mut Random, p: u64) -> Sender {
     }
     for queue in &mut sender.queues {
         *queue = waiting(random, p);
+        queue.start = start(random, p, queue.unsent() as u64);
     }
     count(&mut sender, p);
     sender
+}
+
+/// Nothing waits, and the starts are where other units left them.
+pub fn emptied(random: &mut Random, p: u64) -> Sender {
+    let mut sender = Sender::default();
+    for queue in &mut sender.queues {
+        queue.start = start(random, p, 0);
+    }
+    sender
+}
+
+/// Starts at the limits of a ring, and past it.
+pub const LIMITS: [u16; 5] = [0, 1, 2_048, 4_090, 4_095];
+pub const PAST: [u16; 2] = [4_096, 65_535];
+
+/// A start in the ring, mostly so close to its end that the first packet, the unsent bytes or the next unit goes
+/// over it.
+fn start(random: &mut Random, p: u64, unsent: u64) -> u16 {
+    let ring = QUEUE_BYTES as u64;
+    let to_the_end = match random.below(8) {
+        0 | 1 => return random.pick(&LIMITS),
+        2 => 1 + random.below(ring),
+        3 | 4 => 1 + random.below(p),
+        5 => 1 + random.below(unsent + 1),
+        _ => 1 + unsent + random.below(40),
+    };
+    (ring - to_the_end.min(ring)) as u16
+}
+
+/// A start past its ring, in any queue.
+pub fn past(sender: &mut Sender, random: &mut Random) {
+    let drawn = QUEUE_BYTES as u16 + random.below(61_440) as u16;
+    any(sender, random).start = random.pick(&[PAST[0], PAST[0], PAST[1], 4_097, 8_192, drawn]);
 }
 
 /// Makes the counts right for that p, whatever else is wrong.
@@ -29,7 +63,7 @@ pub fn count(sender: &mut Sender, p: u64) {
     }
 }
 
-/// Without its count.
+/// Without its count and start.
 fn waiting(random: &mut Random, p: u64) -> Queue {
     let mut queue = Queue {
         units: random.below(1 + UNITS as u64),
@@ -56,7 +90,7 @@ fn waiting(random: &mut Random, p: u64) -> Queue {
 }
 
 /// What can be wrong in the state handed in whatever p is: every kind of 17 but two. The counts are left.
-pub const BROKEN: [Fault<Sender>; 13] = [
+pub const BROKEN: [Fault<Sender>; 14] = [
     |sender, random| sender.turn = random.pick(&[3, 4, 256, 1 << 32, u64::MAX]),
     |sender, random| sender.indexes[random.below(3) as usize] = random.pick(&[8, 9, 16, 255]),
     |sender, _| sender.indexes[3] = 8,
@@ -80,6 +114,7 @@ pub const BROKEN: [Fault<Sender>; 13] = [
         let queue = any(sender, random);
         (queue.units, queue.sent) = (0, random.pick(&[1, 840, 4_096, 1 << 40]));
     },
+    past,
 ];
 
 pub fn any<'a>(sender: &'a mut Sender, random: &mut Random) -> &'a mut Queue {
@@ -119,18 +154,15 @@ fn sent_too_long(queue: &mut Queue) {
     queue.sent = 840;
 }
 
-/// A queue without room, for lack of bytes or of units. The counts are left.
+/// A queue without room, for lack of bytes or of units. The counts and the start are left.
 pub fn full(sender: &mut Sender, random: &mut Random, id: u64) {
     let (units, left) = match random.below(3) {
         0 => (8, [1; 8]),
         1 => (1, [4_096, 7, 7, 7, 7, 7, 7, 7]),
         _ => (8, [512; 8]),
     };
-    sender.queues[(id % QUEUES as u64) as usize] = Queue {
-        units,
-        left,
-        ..Queue::default()
-    };
+    let queue = &mut sender.queues[(id % QUEUES as u64) as usize];
+    (queue.units, queue.sent, queue.left) = (units, 0, left);
 }
 
 /// What is stored in place of the sum for a p.

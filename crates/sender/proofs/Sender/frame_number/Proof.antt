@@ -3,7 +3,7 @@ use borrow.Author.Needs.{needs}
 use native.Mathlib.Omega.{arith}
 use Rattle.sender.proofs.Loading.{p-fits}
 use Rattle.sender.proofs.Framing.{product-in}
-use Rattle.sender.proofs.KeptChecks.{frame-13, frame-17, frame-1, frame-1-late, frame-0}
+use Rattle.sender.proofs.Checks.{frame-13, frame-17, frame-1, frame-1-late, frame-0}
 use Rattle.sender.proofs.Sender.frame_number.Statement.{statement}
 use Rattle.sender.proofs.Sender.frame_number.Tie as tie
 

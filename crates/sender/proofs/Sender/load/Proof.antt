@@ -2,7 +2,7 @@
 use mathlib.Core.Path.{refl}
 use native.Mathlib.Omega.{arith}
 use borrow.Author.Needs.{needs}
-use Rattle.sender.proofs.KeptLoading.{load-refused, load-offered, load-full, load-enters, load-done}
+use Rattle.sender.proofs.Entering.{load-refused, load-offered, load-full, load-whole, load-fits, load-done}
 use Rattle.sender.proofs.Sender.load.Statement.{statement}
 use Rattle.sender.proofs.Sender.load.Tie as tie
 
@@ -16,55 +16,67 @@ returns c =
 
 mul-q : tie.Need-mul-q
 mul-q c =
-    let e = c .before in
-    let l = e .before in
+    let l = c .before in
     let g = l .before .before .before in
-    omega (arith, load-offered _ _ _ (g .args .unit .now) (g .args .store .now) _ (l .load-number .ensures) (e .if1 .left) .id-in)
+    omega (arith, load-offered _ _ _ (g .args .unit .now) (g .args .store .now) _ (l .load-number .ensures) (c .if1 .left) .id-in)
 
 element-copy-out-q : tie.Need-element-copy-out-q
 element-copy-out-q c =
-    let e = c .before in
-    let l = e .before in
+    let l = c .before in
     let g = l .before .before .before in
-    search (load-offered _ _ _ (g .args .unit .now) (g .args .store .now) _ (l .load-number .ensures) (e .if1 .left) .id-in, needs)
+    search (load-offered _ _ _ (g .args .unit .now) (g .args .store .now) _ (l .load-number .ensures) (c .if1 .left) .id-in, needs)
 
 unsent-requires : tie.Need-unsent-requires
 unsent-requires c κs = search needs
 
 is-full-requires : tie.Need-is-full-requires
 is-full-requires c κs =
-    let e = c .before .before .before in
+    let e = c .before .before in
     let l = e .before in
     let g = l .before .before .before in
     (load-offered _ _ _ (g .args .unit .now) (g .args .store .now) _ (l .load-number .ensures) (e .if1 .left) .most, c .unsent .ensures .1)
 
 returns-2 : tie.Need-returns-2
 returns-2 c =
-    let e = c .before .before .before .before .before in
+    let u = c .before .before in
+    let e = u .before .before in
     let l = e .before in
     let g = l .before .before .before in
-    load-full _ _ _ (g .args .unit .now) (g .args .store .now) _ (l .load-number .ensures) (e .if1 .left) _ refl _ (c .before .before .unsent .ensures .0) _ (c .before .is-full .ensures) (c .if2 .taken)
+    load-full _ _ _ (g .args .unit .now) (g .args .store .now) _ (l .load-number .ensures) (e .if1 .left) _ refl _ (u .unsent .ensures .0) _ (c .before .is-full .ensures) (c .if2 .taken)
 
-mul-copy : tie.Need-mul-copy
-mul-copy c =
-    let e = c .before .before .before .before .before .before in
+mul-start : tie.Need-mul-start
+mul-start c =
+    let e = c .before .before .before .before in
     let l = e .before in
     let g = l .before .before .before in
     omega (arith, load-offered _ _ _ (g .args .unit .now) (g .args .store .now) _ (l .load-number .ensures) (e .if1 .left) .id-in)
 
-add-copy : tie.Need-add-copy
-add-copy c =
-    let e = c .before .before .before .before .before .before in
+element-copy-out-start : tie.Need-element-copy-out-start
+element-copy-out-start c =
+    let e = c .before .before .before .before in
     let l = e .before in
     let g = l .before .before .before in
-    omega (arith, load-offered _ _ _ (g .args .unit .now) (g .args .store .now) _ (l .load-number .ensures) (e .if1 .left) .id-in, c .before .before .before .unsent .ensures .1)
+    search (load-offered _ _ _ (g .args .unit .now) (g .args .store .now) _ (l .load-number .ensures) (e .if1 .left) .id-in, needs)
 
-copy-requires : tie.Need-copy-requires
-copy-requires c κs = search needs
+behind-requires : tie.Need-behind-requires
+behind-requires c κs = c .before .before .before .before .unsent .ensures .1
+
+put-in-requires : tie.Need-put-in-requires
+put-in-requires c κs =
+    let i = c .before .before .before in
+    let u = i .before .before in
+    let e = u .before .before in
+    let l = e .before in
+    let g = l .before .before .before in
+    let o = load-offered _ _ _ (g .args .unit .now) (g .args .store .now) _ (l .load-number .ensures) (e .if1 .left) in
+    (o .id-in, load-whole _ _ _ (g .args .unit .now) (g .args .store .now) _ (l .load-number .ensures) (e .if1 .left) _ refl _ (u .unsent .ensures .0) _ (i .before .is-full .ensures) (i .if2 .left), c .behind .ensures .1, o .most)
+
+shape-requires : tie.Need-shape-requires
+shape-requires c κs = search needs
 
 cast-pushed : tie.Need-cast-pushed
 cast-pushed c =
-    let e = c .before .before .before .before .before .before .before .before .before in
+    let e = c .before .before .before .before .before .before .before .before .before .before .before in
     let l = e .before in
     let g = l .before .before .before in
     omega (arith, load-offered _ _ _ (g .args .unit .now) (g .args .store .now) _ (l .load-number .ensures) (e .if1 .left) .most)
@@ -74,42 +86,77 @@ pushed-requires c κs = search needs
 
 mul-r : tie.Need-mul-r
 mul-r c =
-    let e = c .before .before .before .before .before .before .before .before .before .before in
+    let e = c .before .before .before .before .before .before .before .before .before .before .before .before in
     let l = e .before in
     let g = l .before .before .before in
     omega (arith, load-offered _ _ _ (g .args .unit .now) (g .args .store .now) _ (l .load-number .ensures) (e .if1 .left) .id-in)
 
 element-set-from-r : tie.Need-element-set-from-r
 element-set-from-r c =
-    let e = c .before .before .before .before .before .before .before .before .before .before in
+    let e = c .before .before .before .before .before .before .before .before .before .before .before .before in
     let l = e .before in
     let g = l .before .before .before in
     search (load-offered _ _ _ (g .args .unit .now) (g .args .store .now) _ (l .load-number .ensures) (e .if1 .left) .id-in, needs)
 
-cast-more : tie.Need-cast-more
-cast-more c =
-    let e = c .before .before .before .before .before .before .before .before .before .before .before in
+cast-packets : tie.Need-cast-packets
+cast-packets c =
+    let e = c .before .before .before .before .before .before .before .before .before .before .before .before .before in
     let l = e .before in
     let g = l .before .before .before in
     omega (arith, load-offered _ _ _ (g .args .unit .now) (g .args .store .now) _ (l .load-number .ensures) (e .if1 .left) .high)
 
-more-requires : tie.Need-more-requires
-more-requires c κs =
-    let e = c .before .before .before .before .before .before .before .before .before .before .before in
+cast-packets-2 : tie.Need-cast-packets-2
+cast-packets-2 c =
+    let e = c .before .before .before .before .before .before .before .before .before .before .before .before .before in
     let l = e .before in
     let g = l .before .before .before in
-    load-enters _ _ _ (g .args .unit .now) (g .args .store .now) _ (l .load-number .ensures) (e .if1 .left) _ refl _ (c .before .before .before .before .before .before .before .before .unsent .ensures .0) _ (c .before .before .before .before .before .before .before .is-full .ensures) (c .before .before .before .before .before .before .if2 .left)
+    omega (arith, load-offered _ _ _ (g .args .unit .now) (g .args .store .now) _ (l .load-number .ensures) (e .if1 .left) .most)
+
+packets-requires : tie.Need-packets-requires
+packets-requires c κs = search needs
+
+mul-entered : tie.Need-mul-entered
+mul-entered c =
+    let e = c .before .before .before .before .before .before .before .before .before .before .before .before .before .before in
+    let l = e .before in
+    let g = l .before .before .before in
+    omega (arith, load-offered _ _ _ (g .args .unit .now) (g .args .store .now) _ (l .load-number .ensures) (e .if1 .left) .id-in)
+
+element-copy-out-entered : tie.Need-element-copy-out-entered
+element-copy-out-entered c =
+    let e = c .before .before .before .before .before .before .before .before .before .before .before .before .before .before in
+    let l = e .before in
+    let g = l .before .before .before in
+    search (load-offered _ _ _ (g .args .unit .now) (g .args .store .now) _ (l .load-number .ensures) (e .if1 .left) .id-in, needs)
+
+add-entered : tie.Need-add-entered
+add-entered c =
+    let i = c .before .before .before .before .before .before .before .before .before .before .before in
+    let u = i .before .before in
+    let e = u .before .before in
+    let l = e .before in
+    let g = l .before .before .before in
+    omega (arith, load-fits _ _ _ (g .args .unit .now) (g .args .store .now) _ (l .load-number .ensures) (e .if1 .left) _ refl _ (u .unsent .ensures .0) _ (i .before .is-full .ensures) (i .if2 .left) (c .before .before .before .before .shape .ensures) _ (c .before .packets .ensures .1))
+
+element-write-entered : tie.Need-element-write-entered
+element-write-entered c =
+    let e = c .before .before .before .before .before .before .before .before .before .before .before .before .before .before .before in
+    let l = e .before in
+    let g = l .before .before .before in
+    search (load-offered _ _ _ (g .args .unit .now) (g .args .store .now) _ (l .load-number .ensures) (e .if1 .left) .id-in, needs)
 
 same-length : tie.Need-same-length
 same-length c = search needs
 
 returns-3 : tie.Need-returns-3
 returns-3 c =
-    let e = c .before .before .before .before .before .before .before .before .before .before .before .before in
+    let w = c .before .before .before .before .before .before .before in
+    let i = c .before .before .before .before .before .before .before .before .before .before .before in
+    let u = i .before .before in
+    let e = u .before .before in
     let l = e .before in
     let g = l .before .before .before in
-    load-done _ _ _ (g .args .unit .now) (g .args .store .now) _ (l .load-number .ensures) (e .if1 .left) _ refl _ (c .before .before .before .before .before .before .before .before .before .unsent .ensures .0) _ (c .before .before .before .before .before .before .before .before .is-full .ensures) (c .before .before .before .before .before .before .before .if2 .left) _ _ _
-    (c .before .before .pushed .ensures) (c .more .ensures) (c .before .before .before .before .before .copy .ensures)
+    load-done _ _ _ (g .args .unit .now) (g .args .store .now) _ (l .load-number .ensures) (e .if1 .left) _ refl _ (u .unsent .ensures .0) _ (i .before .is-full .ensures) (i .if2 .left) (c .before .before .before .before .shape .ensures) _ _ _ (c .before .before .before .pushed .ensures) (c .before .packets .ensures .0) _ (w .before .behind .ensures .0) (w .put-in .ensures)
 
 pub load-spec : {M : Type 1} → statement M
 load-spec =
@@ -122,14 +169,21 @@ load-spec =
     unsent-requires
     is-full-requires
     returns-2
-    mul-copy
-    add-copy
-    copy-requires
+    mul-start
+    element-copy-out-start
+    behind-requires
+    put-in-requires
+    shape-requires
     cast-pushed
     pushed-requires
     mul-r
     element-set-from-r
-    cast-more
-    more-requires
+    cast-packets
+    cast-packets-2
+    packets-requires
+    mul-entered
+    element-copy-out-entered
+    add-entered
+    element-write-entered
     same-length
     returns-3)

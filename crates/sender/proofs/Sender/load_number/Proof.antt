@@ -2,7 +2,7 @@
 use borrow.Author.Needs.{needs}
 use native.Mathlib.Omega.{arith}
 use Rattle.sender.proofs.Loading.{p-fits}
-use Rattle.sender.proofs.KeptChecks.{load-13, load-17, load-1, load-1-unit, load-14-empty, load-14-long, load-14-id, load-0}
+use Rattle.sender.proofs.Checks.{load-13, load-17, load-1, load-1-unit, load-14-empty, load-14-long, load-14-id, load-0}
 use Rattle.sender.proofs.Sender.load_number.Statement.{statement}
 use Rattle.sender.proofs.Sender.load_number.Tie as tie
 
