@@ -9,6 +9,7 @@ pub mod Without
 pub mod Stays
 pub mod KeptCounts
 pub mod Counts
+pub mod Pending
 pub mod BetweenFair
 pub mod Between
 pub mod Holds

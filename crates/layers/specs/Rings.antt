@@ -9,11 +9,13 @@ use Rattle.laws.specs.Pick.{pick}
 use Rattle.hand.specs.Settings.{settingsFor}
 use Rattle.hand.specs.declared.Settings.{Settings}
 use Rattle.queue.specs.Queue.{unsent}
+use Rattle.row.specs.Content.{contentOf}
 use Rattle.sender.specs.State.{queueOf}
 use Rattle.sender.specs.Rings.{frontOf, keptOf, ringStart, ringOf}
 use Rattle.demand.specs.Run.{Act, load, frame, settingsOf}
+use Rattle.demand.specs.Log.{Stands, leftOf}
 use Rattle.layers.specs.KeptRun.{KeptDesk, freshKeptDesk, afterKept, runKept, answerKept, answersKept}
-use Rattle.layers.specs.Run.{RingDesk, freshRingDesk, afterRing, runRing, answerRing, answersRing}
+use Rattle.layers.specs.Run.{RingDesk, freshRingDesk, afterRing, runRing, answerRing, answersRing, logRing}
 
 -- the bytes of queue id that a desk has yet to send, in order: at the front of its part, or from its start on and around its end
 abbrev pub pendingFront : KeptDesk → ℕ → List ℕ
@@ -65,3 +67,13 @@ pub record RingsAreSame : Type 0 where
   pub frames : (g : Settings) (out : List ℕ) (y : RingDesk) → afterRing (frame g out) y .store ≡ y .store
   pub loads : (g : Settings) (id : ℕ) (unit : List ℕ) (y : RingDesk) → answerRing (load g id unit) y .number ≡ 0 → Writes id unit y (afterRing (load g id unit) y .store)
   pub refused : (a : Act) (y : RingDesk) → (answerRing a y .number ≡ 0 → ⊥) → afterRing a y ≡ y
+
+-- the bytes left of each unit of queue id, read from its ring
+abbrev pub leftInRing : RingDesk → ℕ → List (List ℕ)
+leftInRing y id = contentOf (queueOf (frontOf (y .state)) id) (ringOf (y .state .start) (y .store) id)
+
+-- what is pending stands in the store: from fresh where p stands, the ring of each queue holds the units that were accepted and are not yet wholly
+-- sent, as one knows them who sees only the calls and their answers
+abbrev pub PendingStands : Type 0
+PendingStands = (p : ℕ) (acts : List Act) (store : List ℕ) → length store ≡ 12288 → Stands p (logRing acts (freshRingDesk store)) → (id : ℕ) → id < 3
+    → leftInRing (runRing acts (freshRingDesk store)) id ≡ leftOf p id (logRing acts (freshRingDesk store))

@@ -17,8 +17,8 @@ ghost use Rattle.sender.specs.Frame.{endOf, endsOf, nextFrom, rowAt, nul
 ghost use Rattle.sender.specs.Rings.{frontOf, unrolled, freshRings, strayed, ringLoadFor, ringStoreFor, ringFrameTests, ringFramed, ringFrameFor, ringFrameOut};
 ghost use Rattle.sender.specs.Private.{Ready, faulty, Shape, unitTests, noRoom, Going, less, onFrom};
 
-// 01's part of the state: the three queues, whose turn it is to get a spare, and the next continuity index of each id, filler last. In 01
-// the unsent bytes of each queue stand at the front of its part of the store: hence the name.
+// 01's part of the state, as its definitions have it: the three queues, whose turn it is to get a spare, and the next continuity index of
+// each id, filler last. In 01 the unsent bytes of each queue stand at the front of its part of the store: hence the name.
 pub struct Front {
     pub q: [Queue; 3],
     pub turn: usize,
@@ -62,7 +62,7 @@ pub struct Ends {
     pub index: u8,
 }
 
-// The state after a frame.
+// 01's part of the state after a frame.
 fn next_state(e: Ends, turn: usize) -> Front
     ensures { λ r. ⌜ r ≡ nextFrom e turn ⌝ }
 {
