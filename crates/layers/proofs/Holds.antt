@@ -20,7 +20,8 @@ use Rattle.layers.specs.Run.{RingDesk, freshRingDesk, afterRing, runRing
 use Rattle.layers.specs.Holds.{Holds, ItHolds, SentByField, ByField, DemandByField}
 use Rattle.layers.proofs.Without.{stands-upto}
 use Rattle.layers.proofs.KeptCounts.{fresh-answers, steady-stands, actsWith, steady-with, run-with}
-use Rattle.layers.proofs.Counts.{log-is, stands-is, display-is-true}
+use Rattle.layers.proofs.Rings.{log-is, stands-is}
+use Rattle.layers.proofs.Counts.{display-is-true}
 use Rattle.layers.proofs.Between.{holds-all}
 
 -- ---- p unchanged

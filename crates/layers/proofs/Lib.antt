@@ -8,6 +8,7 @@ pub mod Writes
 pub mod Without
 pub mod Stays
 pub mod KeptCounts
+pub mod Rings
 pub mod Counts
 pub mod Pending
 pub mod BetweenFair

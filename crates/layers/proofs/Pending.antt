@@ -17,15 +17,15 @@ use Rattle.demand.specs.Run.{Act, Steady, freshDesk, Answer, answers}
 use Rattle.demand.specs.Log.{Stands, events, leftOf}
 use Rattle.demand.specs.Within.{contentIn}
 use Rattle.demand.proofs.Good.{Good}
-use Rattle.demand.proofs.Mirror.{Mirror, mirror}
+use Rattle.demand.proofs.Mirror.{mirror}
 use Rattle.demand.proofs.Store.{cut-front}
 use Rattle.layers.specs.KeptRun.{KeptDesk, freshKeptDesk, plain, runKept, logKept}
-use Rattle.layers.specs.Run.{RingDesk, freshRingDesk, runRing, logRing}
+use Rattle.layers.specs.Run.{RingDesk, freshRingDesk, runRing}
 use Rattle.layers.specs.Rings.{leftInRing, PendingStands, Same}
 use Rattle.layers.proofs.Without.{left-with}
 use Rattle.layers.proofs.KeptCounts.{fresh-answers, fresh-run, steady-stands, actsWith, steady-with, run-with}
 use Rattle.layers.proofs.Same.{every-run, fresh-same}
-use Rattle.layers.proofs.Counts.{log-is, stands-is}
+use Rattle.layers.proofs.Rings.{log-is, stands-is}
 
 -- ---- in the layout of before
 -- the desk is good, and has of each queue what the log says

@@ -6,7 +6,7 @@ use mathlib.Core.Bool.{Bool, true, false}
 use native.Mathlib.Omega.{arith}
 use borrow.Author.Tests.{eq-eqb, leb-true, leb-false, ltb-true, ltb-false}
 use lib.Dec.{ltb, leb}
-use lib.ListN.{length, getD, take, drop}
+use lib.ListN.{length, getD, drop}
 use lib.Seq.{getD-take, getD-drop}
 use Rattle.laws.specs.Part.{partOf}
 use Rattle.laws.specs.Pick.{pick}

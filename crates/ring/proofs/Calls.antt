@@ -4,11 +4,11 @@ use mathlib.Core.Path.{_≡_, sym, ap, ap₂, _∙_}
 use mathlib.Core.List.{List, _++_}
 use native.Mathlib.Omega.{arith}
 use borrow.Author.Tests.{le-leb, lt-leb}
-use lib.ListN.{length, take, drop, length-drop, drop-of-length-le}
-use lib.Seq.{take-all, take-take, take-append-le, take-append-add, length-take-le}
+use lib.ListN.{length, take, drop, length-drop}
+use lib.Seq.{take-take, take-append-le, take-append-add, length-take-le}
 use Rattle.laws.specs.Written.{written}
 use Rattle.laws.proofs.Flags.{and-false}
-use Rattle.laws.proofs.Written.{written-none, written-length, write-next}
+use Rattle.laws.proofs.Written.{written-length, write-next}
 use Rattle.moves.specs.Moves.{placed}
 use Rattle.moves.proofs.Turns.{placed-is}
 use Rattle.ring.specs.Ring.{turned, around, copiedOut, copiedIn}

@@ -19,7 +19,7 @@ use Rattle.ring.proofs.Turned.{turned-length, turned-next}
 use Rattle.row.specs.Row.{headLen, packetAt, stepped, steps, outs, startOf, fits, rowFor, rowOut}
 use Rattle.row.specs.Private.{InRegion}
 use Rattle.row.specs.declared.Out.{Out}
-use Rattle.row.proofs.Steps.{Fit, step-is, row-none, row-fit, row-whole, row-done}
+use Rattle.row.proofs.Steps.{step-is, row-none, row-done}
 
 -- ---- the bytes of a packet: before the end
 pub straight : (r : List ℕ) (at n k : ℕ) → n ≤ length r - at → k ≡ n → take k (drop at r) ≡ take n (turned at r)

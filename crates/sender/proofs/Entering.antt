@@ -1,6 +1,6 @@
 -- A unit enters the ring of its queue. Assumes nothing.
 use Prim.Native.Nat.{ℕ, zero, suc, _+_, _*_, _%_, _≤_, _<_}
-use mathlib.Core.Path.{_≡_, refl, sym, ap, ap₂, _∙_, subst}
+use mathlib.Core.Path.{_≡_, refl, sym, ap, ap₂, _∙_}
 use mathlib.Core.List.{List, [], _∷_, _++_}
 use mathlib.Core.Bool.{Bool, true, false, true≢false}
 use native.Mathlib.Omega.{arith}
@@ -21,7 +21,7 @@ use Rattle.ring.proofs.Turned.{around-length}
 use Rattle.sender.specs.State.{noQueue, queueOf, putQueue}
 use Rattle.sender.specs.Load.{full, loaded}
 use Rattle.sender.specs.Kept.{storedOf, countsOf, kept}
-use Rattle.sender.specs.Rings.{frontOf, keptOf, ringStart, strayed, behindUnsent, placedAround, ringLoaded, ringLoadNumber, ringLoadFor, ringStoreFor}
+use Rattle.sender.specs.Rings.{frontOf, keptOf, ringStart, strayed, placedAround, ringLoaded, ringLoadNumber, ringLoadFor, ringStoreFor}
 use Rattle.sender.specs.Private.{Shape, unitTests, noRoom, Entering}
 use Rattle.sender.specs.declared.Front.{Front}
 use Rattle.sender.specs.declared.Sender.{Sender}
