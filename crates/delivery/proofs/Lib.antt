@@ -8,7 +8,6 @@ pub mod Resumed
 pub mod Loss
 pub mod Examples
 pub mod Rejoined
-pub mod Left
 pub mod Filler
 pub mod Gap
 pub mod Soon

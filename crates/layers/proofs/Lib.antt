@@ -10,7 +10,7 @@ pub mod Stays
 pub mod KeptCounts
 pub mod Rings
 pub mod Counts
-pub mod Pending
 pub mod BetweenFair
 pub mod Between
 pub mod Holds
+pub mod Pending

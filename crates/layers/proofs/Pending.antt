@@ -1,7 +1,7 @@
 -- What is pending stands in the store, read through the rings. Assumes nothing.
 use Prim.Native.Nat.{ℕ, _≤_, _<_}
 use mathlib.Core.Path.{_≡_, refl, sym, ap, _∙_, subst}
-use mathlib.Core.List.{List}
+use mathlib.Core.List.{List, _++_}
 use native.Mathlib.Omega.{arith}
 use lib.ListN.{length, take, drop, take-append-drop}
 use lib.Seq.{length-take-le}
@@ -14,18 +14,21 @@ use Rattle.sender.specs.Kept.{Kept}
 use Rattle.sender.specs.Rings.{frontOf, ringOf}
 use Rattle.sender.proofs.Unrolled.{part-length, ring-length}
 use Rattle.demand.specs.Run.{Act, Steady, freshDesk, Answer, answers}
-use Rattle.demand.specs.Log.{Stands, events, leftOf}
+use Rattle.demand.specs.Log.{Stands, events, sentOf, leftOf}
 use Rattle.demand.specs.Within.{contentIn}
 use Rattle.demand.proofs.Good.{Good}
 use Rattle.demand.proofs.Mirror.{mirror}
 use Rattle.demand.proofs.Store.{cut-front}
+use Rattle.delivery.specs.Delivered.{freshEar, lineAt, hearAll}
+use Rattle.delivery.specs.Whole.{deliveredIn, wholes}
 use Rattle.layers.specs.KeptRun.{KeptDesk, freshKeptDesk, plain, runKept, logKept}
-use Rattle.layers.specs.Run.{RingDesk, freshRingDesk, runRing}
+use Rattle.layers.specs.Run.{RingDesk, freshRingDesk, runRing, logRing}
 use Rattle.layers.specs.Rings.{leftInRing, PendingStands, Same}
 use Rattle.layers.proofs.Without.{left-with}
 use Rattle.layers.proofs.KeptCounts.{fresh-answers, fresh-run, steady-stands, actsWith, steady-with, run-with}
 use Rattle.layers.proofs.Same.{every-run, fresh-same}
 use Rattle.layers.proofs.Rings.{log-is, stands-is}
+use Rattle.layers.proofs.Holds.{it-holds}
 
 -- ---- in the layout of before
 -- the desk is good, and has of each queue what the log says
@@ -76,10 +79,22 @@ module _ (p : ℕ) (x : KeptDesk) (y : RingDesk) (k : Same x y) (g : Good p (pla
       ∙ content-front q (partOf (x .store) id) (omega (arith, part-length (x .store) id h (g .store)))
       ∙ ap (λ (v : Queue). contentOf v (partOf (x .store) id)) (sym e)
 
-pub pending-stands : PendingStands
-pending-stands p acts store hs st id h =
+ring-left : (p : ℕ) (acts : List Act) (store : List ℕ) → length store ≡ 12288 → Stands p (logRing acts (freshRingDesk store)) → (id : ℕ) → id < 3
+    → leftInRing (runRing acts (freshRingDesk store)) id ≡ leftOf p id (logRing acts (freshRingDesk store))
+ring-left p acts store hs st id h =
     let s = kept-stood p acts store hs (stands-is acts store p st) in
     let r = every-run acts (freshKeptDesk store) (freshRingDesk store) (fresh-same store store refl) in
     stands-in p (runKept acts (freshKeptDesk store)) (runRing acts (freshRingDesk store)) (r .desks) (s .good) id h
     ∙ s .left id h
     ∙ ap (leftOf p id) (log-is acts store)
+
+pub pending-stands : PendingStands
+pending-stands p acts store hs st id h =
+    let es = logRing acts (freshRingDesk store) in
+    let l = ring-left p acts store hs st id h in
+    record {
+      left = l;
+      all = λ buffer hb.
+          ap (λ (us : List (List ℕ)). deliveredIn p id es buffer ++ wholes (lineAt (hearAll p (freshEar buffer) (sentOf es)) id) us) l
+          ∙ it-holds p acts store hs st .delivery buffer hb .all id h;
+    }

@@ -1,7 +1,7 @@
 -- E9 of 02, queues as rings: whatever is called, frames, counts and refusals are those of the layout of before. Assumes nothing.
 use Prim.Native.Nat.{ℕ, _+_, _*_, _%_, _≤_, _<_}
 use mathlib.Core.Path.{_≡_}
-use mathlib.Core.List.{List}
+use mathlib.Core.List.{List, _++_}
 use lib.Dec.{eqb}
 use lib.ListN.{length, getD, take}
 use Rattle.laws.specs.Part.{partOf}
@@ -13,7 +13,9 @@ use Rattle.row.specs.Content.{contentOf}
 use Rattle.sender.specs.State.{queueOf}
 use Rattle.sender.specs.Rings.{frontOf, keptOf, ringStart, ringOf}
 use Rattle.demand.specs.Run.{Act, load, frame, settingsOf}
-use Rattle.demand.specs.Log.{Stands, leftOf}
+use Rattle.demand.specs.Log.{Stands, acceptedOf, sentOf, leftOf}
+use Rattle.delivery.specs.Delivered.{freshEar, lineAt, hearAll}
+use Rattle.delivery.specs.Whole.{deliveredIn, wholes}
 use Rattle.layers.specs.KeptRun.{KeptDesk, freshKeptDesk, afterKept, runKept, answerKept, answersKept}
 use Rattle.layers.specs.Run.{RingDesk, freshRingDesk, afterRing, runRing, answerRing, answersRing, logRing}
 
@@ -72,8 +74,17 @@ pub record RingsAreSame : Type 0 where
 abbrev pub leftInRing : RingDesk → ℕ → List (List ℕ)
 leftInRing y id = contentOf (queueOf (frontOf (y .state)) id) (ringOf (y .state .start) (y .store) id)
 
--- what is pending stands in the store: from fresh where p stands, the ring of each queue holds the units that were accepted and are not yet wholly
--- sent, as one knows them who sees only the calls and their answers
+-- what is pending of queue id stands in the store, at the end of a run
+pub record Pending (p : ℕ) (acts : List Act) (store : List ℕ) (id : ℕ) : Type 0 where
+  -- its ring holds the units that were accepted and are not yet wholly sent, as one knows them who sees only the calls and their answers
+  pub left : leftInRing (runRing acts (freshRingDesk store)) id ≡ leftOf p id (logRing acts (freshRingDesk store))
+  -- where every packet was given in order to a fresh receiver: the units that it delivered, and behind them those of the ring, the first of them
+  -- together with the bytes that the receiver holds of it, are what was accepted
+  pub all : (buffer : List ℕ) → length buffer ≡ 16384
+      → deliveredIn p id (logRing acts (freshRingDesk store)) buffer
+      ++ wholes (lineAt (hearAll p (freshEar buffer) (sentOf (logRing acts (freshRingDesk store)))) id) (leftInRing (runRing acts (freshRingDesk store)) id)
+      ≡ acceptedOf id (logRing acts (freshRingDesk store))
+
+-- from fresh where p stands
 abbrev pub PendingStands : Type 0
-PendingStands = (p : ℕ) (acts : List Act) (store : List ℕ) → length store ≡ 12288 → Stands p (logRing acts (freshRingDesk store)) → (id : ℕ) → id < 3
-    → leftInRing (runRing acts (freshRingDesk store)) id ≡ leftOf p id (logRing acts (freshRingDesk store))
+PendingStands = (p : ℕ) (acts : List Act) (store : List ℕ) → length store ≡ 12288 → Stands p (logRing acts (freshRingDesk store)) → (id : ℕ) → id < 3 → Pending p acts store id

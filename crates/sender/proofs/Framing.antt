@@ -2,10 +2,10 @@
 use Prim.Native.Nat.{ℕ, zero, suc, _+_, _-_, _*_, _%_, _≤_, _<_}
 use mathlib.Core.Path.{_≡_, refl, sym, ap, _∙_, subst}
 use mathlib.Core.List.{List, [], _++_}
-use mathlib.Core.Bool.{Bool, true, false, not}
+use mathlib.Core.Bool.{Bool, true, false}
 use native.Mathlib.Nat.{mul-le-mul-right}
 use native.Mathlib.Omega.{arith}
-use borrow.Author.Tests.{eq-eqb, le-ltb, le-leb, eqb-true, ltb-false, not-false}
+use borrow.Author.Tests.{le-leb, eqb-true, ltb-false, not-false}
 use lib.Dec.{eqb, lit<}
 use lib.ListN.{length, getD, take, drop, length-drop, length-append}
 use lib.Seq.{take-all}
@@ -13,7 +13,7 @@ use Rattle.laws.specs.Part.{partOf}
 use Rattle.laws.specs.Pick.{pick}
 use Rattle.laws.specs.Refuse.{refusedWith}
 use Rattle.laws.specs.Written.{written}
-use Rattle.laws.proofs.Refuse.{free, accepted}
+use Rattle.laws.proofs.Refuse.{free}
 use Rattle.laws.proofs.Written.{write-next}
 use Rattle.packet.specs.Packet.{packetOf, encode}
 use Rattle.hand.specs.Settings.{total, settingsFor, Allowed}
@@ -177,12 +177,6 @@ module _ (g : Settings) (s : Front) (room size : ℕ) where
         whole = eqb-true room 12288 (not-false (eqb room 12288) (t .1 .1 .0));
         fits = ltb-false size (g .n * (g .p + 3)) (t .1 .1 .1 .0);
       }
-
-  pub fit-back-of : private.Fit g s room size → refusedWith (frameTests g s room size) ≡ 0
-  unfolding frameTests
-  fit-back-of f =
-      accepted (frameTests g s room size)
-      (ap not (eq-eqb (settingsFor g) 0 (f .allowed-in)), (f .fine, (ap not (eq-eqb room 12288 (f .whole)), (le-ltb size (g .n * (g .p + 3)) (f .fits), tt))))
 
 -- ---- where the checks have passed
 module _ (g : Settings) (s : Front) (room size : ℕ) (f : private.Fit g s room size) where
