@@ -1,6 +1,6 @@
 -- What is pending stands in the store, read through the rings. Assumes nothing.
 use Prim.Native.Nat.{ℕ, _≤_, _<_}
-use mathlib.Core.Path.{_≡_, refl, sym, ap, _∙_, subst}
+use mathlib.Core.Path.{_≡_, sym, ap, _∙_, subst}
 use mathlib.Core.List.{List, _++_}
 use native.Mathlib.Omega.{arith}
 use lib.ListN.{length, take, drop, take-append-drop}
@@ -26,8 +26,7 @@ use Rattle.layers.specs.Run.{RingDesk, freshRingDesk, runRing, logRing}
 use Rattle.layers.specs.Rings.{leftInRing, PendingStands, Same}
 use Rattle.layers.proofs.Without.{left-with}
 use Rattle.layers.proofs.KeptCounts.{fresh-answers, fresh-run, steady-stands, actsWith, steady-with, run-with}
-use Rattle.layers.proofs.Same.{every-run, fresh-same}
-use Rattle.layers.proofs.Rings.{log-is, stands-is}
+use Rattle.layers.proofs.Rings.{both-runs, log-is, stands-is}
 use Rattle.layers.proofs.Holds.{it-holds}
 
 -- ---- in the layout of before
@@ -83,8 +82,7 @@ ring-left : (p : ℕ) (acts : List Act) (store : List ℕ) → length store ≡ 
     → leftInRing (runRing acts (freshRingDesk store)) id ≡ leftOf p id (logRing acts (freshRingDesk store))
 ring-left p acts store hs st id h =
     let s = kept-stood p acts store hs (stands-is acts store p st) in
-    let r = every-run acts (freshKeptDesk store) (freshRingDesk store) (fresh-same store store refl) in
-    stands-in p (runKept acts (freshKeptDesk store)) (runRing acts (freshRingDesk store)) (r .desks) (s .good) id h
+    stands-in p (runKept acts (freshKeptDesk store)) (runRing acts (freshRingDesk store)) (both-runs acts store .desks) (s .good) id h
     ∙ s .left id h
     ∙ ap (leftOf p id) (log-is acts store)
 

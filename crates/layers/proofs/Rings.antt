@@ -64,14 +64,14 @@ rings-are-same = record {
 
 -- from fresh, with one and the same store
 module _ (acts : List Act) (store : List ℕ) where
-  beside : SameRun acts (freshKeptDesk store) (freshRingDesk store)
-  beside = every-run acts (freshKeptDesk store) (freshRingDesk store) (fresh-same store store refl)
+  pub both-runs : SameRun acts (freshKeptDesk store) (freshRingDesk store)
+  both-runs = every-run acts (freshKeptDesk store) (freshRingDesk store) (fresh-same store store refl)
 
   pub log-is : logKept acts (freshKeptDesk store) ≡ logRing acts (freshRingDesk store)
-  log-is = ap (events acts) (sym (beside .answers))
+  log-is = ap (events acts) (sym (both-runs .answers))
 
   pub state-is : runKept acts (freshKeptDesk store) .state ≡ keptOf (runRing acts (freshRingDesk store) .state)
-  state-is = beside .desks .state
+  state-is = both-runs .desks .state
 
   pub stands-is : (p : ℕ) → Stands p (logRing acts (freshRingDesk store)) → Stands p (logKept acts (freshKeptDesk store))
   stands-is p = subst (Stands p) (sym log-is)

@@ -13,7 +13,7 @@ use Rattle.row.specs.Content.{contentOf}
 use Rattle.sender.specs.State.{queueOf}
 use Rattle.sender.specs.Rings.{frontOf, keptOf, ringStart, ringOf}
 use Rattle.demand.specs.Run.{Act, load, frame, settingsOf}
-use Rattle.demand.specs.Log.{Stands, acceptedOf, sentOf, leftOf}
+use Rattle.demand.specs.Log.{Event, Stands, acceptedOf, sentOf, leftOf}
 use Rattle.delivery.specs.Delivered.{freshEar, lineAt, hearAll}
 use Rattle.delivery.specs.Whole.{deliveredIn, wholes}
 use Rattle.layers.specs.KeptRun.{KeptDesk, freshKeptDesk, afterKept, runKept, answerKept, answersKept}
@@ -74,17 +74,16 @@ pub record RingsAreSame : Type 0 where
 abbrev pub leftInRing : RingDesk → ℕ → List (List ℕ)
 leftInRing y id = contentOf (queueOf (frontOf (y .state)) id) (ringOf (y .state .start) (y .store) id)
 
--- what is pending of queue id stands in the store, at the end of a run
-pub record Pending (p : ℕ) (acts : List Act) (store : List ℕ) (id : ℕ) : Type 0 where
+-- what is pending of queue id stands in the store: of the desk y that a run has left, and of its calls and what each answered
+pub record Pending (p id : ℕ) (es : List Event) (y : RingDesk) : Type 0 where
   -- its ring holds the units that were accepted and are not yet wholly sent, as one knows them who sees only the calls and their answers
-  pub left : leftInRing (runRing acts (freshRingDesk store)) id ≡ leftOf p id (logRing acts (freshRingDesk store))
+  pub left : leftInRing y id ≡ leftOf p id es
   -- where every packet was given in order to a fresh receiver: the units that it delivered, and behind them those of the ring, the first of them
   -- together with the bytes that the receiver holds of it, are what was accepted
   pub all : (buffer : List ℕ) → length buffer ≡ 16384
-      → deliveredIn p id (logRing acts (freshRingDesk store)) buffer
-      ++ wholes (lineAt (hearAll p (freshEar buffer) (sentOf (logRing acts (freshRingDesk store)))) id) (leftInRing (runRing acts (freshRingDesk store)) id)
-      ≡ acceptedOf id (logRing acts (freshRingDesk store))
+      → deliveredIn p id es buffer ++ wholes (lineAt (hearAll p (freshEar buffer) (sentOf es)) id) (leftInRing y id) ≡ acceptedOf id es
 
 -- from fresh where p stands
 abbrev pub PendingStands : Type 0
-PendingStands = (p : ℕ) (acts : List Act) (store : List ℕ) → length store ≡ 12288 → Stands p (logRing acts (freshRingDesk store)) → (id : ℕ) → id < 3 → Pending p acts store id
+PendingStands = (p : ℕ) (acts : List Act) (store : List ℕ) → length store ≡ 12288 → Stands p (logRing acts (freshRingDesk store)) → (id : ℕ) → id < 3
+    → Pending p id (logRing acts (freshRingDesk store)) (runRing acts (freshRingDesk store))
