@@ -1,5 +1,5 @@
 # make demo    the main job: a frame cut, and the night with two two-o'clocks; make demo NIGHT="files=30 share0=2" changes it, and
-#              NIGHT="lose=50" shows it with each 50th packet lost on the way, NIGHT="more0=6 at=61" with new shares from frame 61 on
+#              NIGHT="lose=50" shows it with each 50th packet lost on the way
 # make test    the gate: proofs, must-fail edits, programs, the second program's tests, and a fresh set of cases compared with it
 #              make test SEED=17 COUNT=5000 repeats a set, or makes a larger one
 # make wrong   tries every edit of must-fail/ and wrong/ by the incremental check; no verdict. make wrong CRATE=sender tries one crate's

@@ -24,35 +24,22 @@ static void seal(uint8_t *s, size_t n) {
 }
 
 /* ---- the shared stream: 63 packets of 127 data bytes, 8,190 bytes a frame; every queue has more than it may send */
-static const struct keshgurvat_settings busiest = {127, 63, {16, 16, 16}, {40, 40, 40}, {0}}, wrong = {0, 63, {16, 16, 16}, {40, 40, 40}, {0}},
-    single = {127, 1, {1, 0, 0}, {1, 1, 1}, {0}}, /* frames of one packet */
-    waits = {127, 63, {16, 16, 16}, {40, 40, 40}, {1, 7, 63, {18, 16, 14}, {40, 40, 40}}}, /* a second set waits for frame 7 */
-    single_waits = {127, 1, {1, 0, 0}, {1, 1, 1}, {1, 7, 1, {0, 0, 1}, {1, 1, 1}}};
-static const struct keshgurvat_three share = {18, 16, 14}, ceiling = {40, 40, 40}; /* of a change */
-static struct keshgurvat_settings settings; /* the record that each call is handed, and that frame and change give back */
+static const struct keshgurvat_settings settings = {127, 63, {16, 16, 16}, {40, 40, 40}}, wrong = {0, 63, {16, 16, 16}, {40, 40, 40}},
+    single = {127, 1, {1, 0, 0}, {1, 1, 1}}; /* frames of one packet */
 static uint8_t store[12288], buffer[16384], unit[1000], units[8][130];
 static struct keshgurvat_sender busy, half, half_late, full, full_late, state;
 static struct keshgurvat_receiver link;
 static struct plain_framed framed;
 static struct plain_received received;
 
-/* state and record set back, before each call */
-static void from(const struct keshgurvat_sender *a_state, const struct keshgurvat_settings *a_record) { state = *a_state, settings = *a_record; }
-
-static uint32_t change_rattle(void) {
-    struct keshgurvat_changed r = keshgurvat_change(settings, 9, 63, share, ceiling);
-    settings = r.next;
-    return r.number;
-}
-static uint32_t load_rattle(void) {
-    struct keshgurvat_loaded r = keshgurvat_load(state, settings, store, sizeof store, 1, unit, sizeof unit);
+static uint32_t load_rattle(const struct keshgurvat_settings *s) {
+    struct keshgurvat_loaded r = keshgurvat_load(state, *s, store, sizeof store, 1, unit, sizeof unit);
     state = r.next;
     return r.number;
 }
-static uint32_t frame_rattle(uint32_t count) {
-    struct keshgurvat_framed r = keshgurvat_frame(state, settings, count, store, sizeof store, out, sizeof out);
+static uint32_t frame_rattle(const struct keshgurvat_settings *s) {
+    struct keshgurvat_framed r = keshgurvat_frame(state, *s, store, sizeof store, out, sizeof out);
     state = r.next;
-    settings = r.settings;
     framed.packets[0] = r.packets.a;
     framed.packets[1] = r.packets.b;
     framed.packets[2] = r.packets.c;
@@ -69,9 +56,8 @@ static uint32_t receive_rattle(size_t p, const uint8_t *s) {
     received.dropped = r.dropped;
     return r.number;
 }
-#define CHANGE_C plain_change(&settings, 9, 63, &share, &ceiling)
-#define LOAD_C plain_load(&state, &settings, store, sizeof store, 1, unit, sizeof unit)
-#define FRAME_C(count) plain_frame(&state, &settings, count, store, sizeof store, out, sizeof out, &framed)
+#define LOAD_C(s) plain_load(&state, s, store, sizeof store, 1, unit, sizeof unit)
+#define FRAME_C(s) plain_frame(&state, s, store, sizeof store, out, sizeof out, &framed)
 #define RECEIVE_C(p, s) plain_receive(&link, p, buffer, sizeof buffer, s, 130, &received)
 
 static void fill_stream(void) {
@@ -106,9 +92,9 @@ static size_t bytes_moved(int rattle) {
         size_t moved = 0;
         for (size_t i = 0; i < sizeof store; i++) before[i] = store[i] = (uint8_t)(i * 57 + 3);
         for (size_t i = 0; i < 127; i++) out[1 + i] = (uint8_t)(before[(start + i) % 4096] + 1);
-        state = full, settings = single;
+        state = full;
         state.start[0] = (uint16_t)start;
-        if (rattle ? frame_rattle(7) : FRAME_C(7)) exit(2);
+        if (rattle ? frame_rattle(&single) : FRAME_C(&single)) exit(2);
         for (size_t i = 0; i < sizeof store; i++) moved += store[i] != before[i];
         for (size_t i = 0; i < 127; i++) moved += out[1 + i] != (uint8_t)(before[(start + i) % 4096] + 1);
         if (moved > most) most = moved;
@@ -177,26 +163,21 @@ static void fill_mdi(void) {
 }
 
 /* One line a row: its name, how many turns are enough to count it, what is done before each call and is not counted, the proved code, and
-   the plain C that it is compared with. A row `X_state` is call X refused by its first test: the cost of handing state and record over and back.
+   the plain C that it is compared with. A row `X_state` is call X refused by its first test: the cost of handing the state over and back.
    The answer of a row `X_bytes` is how many bytes call X moves. */
 #define CALLS(X) \
     X(crc8, 4, , meter_crc8(buf, sizeof buf), plain_crc8(buf, sizeof buf)) \
     X(crc16, 4, , meter_crc16(buf, sizeof buf), plain_crc16(buf, sizeof buf)) \
     X(disperse, 4, , meter_disperse(buf, sizeof buf, out, sizeof buf), plain_disperse(buf, sizeof buf, out, sizeof buf)) \
     X(packet_check, 8, , meter_check(255, packet, sizeof packet), plain_check(255, packet, sizeof packet)) \
-    X(frame, 2, from(&busy, &busiest), frame_rattle(7), FRAME_C(7)) \
-    X(frame_state, 8, from(&busy, &wrong), frame_rattle(7), FRAME_C(7)) \
-    X(frame_switch, 2, from(&busy, &waits), frame_rattle(7), FRAME_C(7)) \
-    X(frame_one, 8, from(&full, &single), frame_rattle(7), FRAME_C(7)) \
-    X(frame_one_wraps, 8, from(&full_late, &single), frame_rattle(7), FRAME_C(7)) \
-    X(frame_one_switch, 8, from(&full, &single_waits), frame_rattle(7), FRAME_C(7)) \
+    X(frame, 2, state = busy, frame_rattle(&settings), FRAME_C(&settings)) \
+    X(frame_state, 8, state = busy, frame_rattle(&wrong), FRAME_C(&wrong)) \
+    X(frame_one, 8, state = full, frame_rattle(&single), FRAME_C(&single)) \
+    X(frame_one_wraps, 8, state = full_late, frame_rattle(&single), FRAME_C(&single)) \
     X(frame_one_bytes, 1, , bytes_moved(1), bytes_moved(0)) \
-    X(load, 8, from(&half, &busiest), load_rattle(), LOAD_C) \
-    X(load_wraps, 8, from(&half_late, &busiest), load_rattle(), LOAD_C) \
-    X(load_waits, 8, from(&half, &waits), load_rattle(), LOAD_C) \
-    X(load_state, 8, from(&half, &wrong), load_rattle(), LOAD_C) \
-    X(change, 8, settings = busiest, change_rattle(), CHANGE_C) \
-    X(change_state, 8, settings = wrong, change_rattle(), CHANGE_C) \
+    X(load, 8, state = half, load_rattle(&settings), LOAD_C(&settings)) \
+    X(load_wraps, 8, state = half_late, load_rattle(&settings), LOAD_C(&settings)) \
+    X(load_state, 8, state = half, load_rattle(&wrong), LOAD_C(&wrong)) \
     X(receive, 8, , receive_rattle(127, units[i % 8]), RECEIVE_C(127, units[i % 8])) \
     X(receive_state, 8, , receive_rattle(0, units[i % 8]), RECEIVE_C(0, units[i % 8])) \
     X(mdi_read, 4, , read_rattle(mdi, mdi_len, i % 128), read_c(mdi, mdi_len, i % 128)) \
@@ -235,7 +216,6 @@ static unsigned long long sum_wide(const void *at, size_t n, unsigned long long 
     }
     return sum;
 }
-static unsigned long long sum_set(unsigned long long sum, const struct keshgurvat_three *t) { return ((sum * 31 + t->a) * 31 + t->b) * 31 + t->c; }
 static unsigned long long sum_all(unsigned long long sum) {
     sum = sum_wide(out, sizeof out, sum_wide(store, sizeof store, sum_wide(buffer, sizeof buffer, sum)));
     for (int k = 0; k < 3; k++)
@@ -244,9 +224,6 @@ static unsigned long long sum_all(unsigned long long sum) {
     for (int k = 0; k < 3; k++) sum = (sum * 31 + state.waiting[k]) * 31 + state.start[k];
     for (int k = 0; k < 4; k++)
         sum = (((sum * 31 + link.link[k].heard) * 31 + link.link[k].index) * 31 + link.link[k].begun) * 31 + link.link[k].len;
-    sum = sum_set(sum_set((sum * 31 + settings.p) * 31 + settings.n, &settings.share), &settings.ceiling);
-    sum = ((sum * 31 + settings.second.waits) * 31 + settings.second.count) * 31 + settings.second.n;
-    sum = sum_set(sum_set(sum, &settings.second.share), &settings.second.ceiling);
     for (int k = 0; k < 3; k++) sum = sum * 31 + framed.packets[k];
     sum = (sum * 31 + framed.spares) * 31 + framed.filler;
     return (((sum * 31 + received.delivered) * 31 + received.id) * 31 + received.length) * 31 + received.dropped;

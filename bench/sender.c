@@ -1,27 +1,15 @@
-/* Change, load and frame in plain C, with the same refusals in the same order. */
+/* Load and frame in plain C, with the same refusals in the same order. */
 #include <string.h>
 #include "crc.h"
 #include "sender.h"
 
 static int bad_queue(size_t n, size_t share, size_t ceiling) { return ceiling < share || ceiling == 0 || n < ceiling; }
 
-static int bad_set(size_t p, size_t n, const struct keshgurvat_three *share, const struct keshgurvat_three *ceiling) {
-    if (p == 0 || p > 255 || n == 0 || n > 8190 / (p + 3)) return 1;
-    if (bad_queue(n, share->a, ceiling->a) || bad_queue(n, share->b, ceiling->b) || bad_queue(n, share->c, ceiling->c)) return 1;
-    return n < share->a + share->b + share->c;
-}
-
 static int bad_settings(const struct keshgurvat_settings *s) {
-    const struct keshgurvat_second *t = &s->second;
-    if (bad_set(s->p, s->n, &s->share, &s->ceiling)) return 1;
-    return t->waits && bad_set(s->p, t->n, &t->share, &t->ceiling);
-}
-
-uint32_t plain_change(struct keshgurvat_settings *settings, uint32_t count, size_t n, const struct keshgurvat_three *share,
-                      const struct keshgurvat_three *ceiling) {
-    if (bad_settings(settings) || bad_set(settings->p, n, share, ceiling)) return 13;
-    settings->second = (struct keshgurvat_second){1, count, n, *share, *ceiling};
-    return 0;
+    size_t p = s->p, n = s->n;
+    if (p == 0 || p > 255 || n == 0 || n > 8190 / (p + 3)) return 1;
+    if (bad_queue(n, s->share.a, s->ceiling.a) || bad_queue(n, s->share.b, s->ceiling.b) || bad_queue(n, s->share.c, s->ceiling.c)) return 1;
+    return n < s->share.a + s->share.b + s->share.c;
 }
 
 static size_t unsent(const struct keshgurvat_queue *q) {
@@ -157,20 +145,12 @@ static uint8_t *put_row(struct keshgurvat_sender *state, size_t p, size_t id, si
     return out;
 }
 
-uint32_t plain_frame(struct keshgurvat_sender *state, struct keshgurvat_settings *settings, uint32_t count, const uint8_t *store,
-                     size_t store_len, uint8_t *out, size_t out_len, struct plain_framed *framed) {
-    struct keshgurvat_second *t = &settings->second;
-    int due = t->waits && t->count == count;
+uint32_t plain_frame(struct keshgurvat_sender *state, const struct keshgurvat_settings *settings, const uint8_t *store, size_t store_len,
+                     uint8_t *out, size_t out_len, struct plain_framed *framed) {
     size_t p = settings->p;
     if (bad_settings(settings)) return 13;
     if (broken(state, p)) return 17;
-    if (store_len != 12288 || out_len < (due ? t->n : settings->n) * (p + 3)) return 1;
-    if (due) {
-        settings->n = t->n;
-        settings->share = t->share;
-        settings->ceiling = t->ceiling;
-        memset(t, 0, sizeof *t);
-    }
+    if (store_len != 12288 || out_len < settings->n * (p + 3)) return 1;
     hand_out(state, settings, framed);
     for (size_t id = 0; id < 3; id++) out = put_row(state, p, id, framed->packets[id], store + id * 4096, out);
     for (size_t k = 0; k < framed->filler; k++) {

@@ -1,29 +1,23 @@
 /* An example host: the Sunday in October with two two-o'clocks. News pages (queue 0), map files (queue 1) and the timetable (queue 2)
    share one packet stream. The machine that sends the map files starts at two o'clock, and so it starts twice; the news must not wait for
-   it. From four o'clock on the news have bought more of the stream: another set of settings waits for the frame with that count, and on
-   the way there the counts run over FFFFFFFF. Each frame is dispersed for the air; at the far end dispersal gives it back, and it goes packet
-   by packet through the packet check to two receivers: in the hall every packet arrives, in the valley some are lost.
+   it. Each frame is dispersed for the air; at the far end dispersal gives it back, and it goes packet by packet through the packet check to
+   two receivers: in the hall every packet arrives, in the valley some are lost.
    usage: example [FRAMES]: the frames of an hour, 9,000 of 400 ms unless told otherwise. Status 0: in the hall all units are back in time and
-   none is dropped, at both receivers the bytes balance, and every frame has the length of the set in force at it. */
+   none is dropped, and at both receivers the bytes balance. */
 #include <stdio.h>
 #include <stdlib.h>
 #include <string.h>
 #include "keshgurvat.h"
 
 enum { NEWS, MAPS, TIMETABLE, QUEUES };
-enum { PACKETS = 12 }; /* of a frame, until four o'clock */
 static const char *const name[QUEUES] = {"news", "maps", "timetable"};
-static const size_t map_files = 13000, map_bytes = 1300, page_bytes = 1200, table_bytes = 300; /* the maps last until after four */
+static const struct keshgurvat_settings settings = {
+    .p = 97, .n = 12, .share = {4, 3, 1}, .ceiling = {12, 10, 4}}; /* a frame of 12 packets of 100 bytes */
+static const size_t map_files = 5000, map_bytes = 1300, page_bytes = 1200, table_bytes = 300;
 
-/* What a host keeps: the sender with its settings and its store, each receiver with its buffer. The library keeps nothing. */
-static struct keshgurvat_settings settings = {
-    .p = 97, .n = PACKETS, .share = {4, 3, 1}, .ceiling = {12, 10, 4}}; /* a frame of 12 packets of 100 bytes; none waits */
-static const struct keshgurvat_second bought = {.n = 14, .share = {7, 3, 1}, .ceiling = {14, 10, 4}}; /* from four o'clock on */
+/* What a host keeps: the sender with its store, each receiver with its buffer. The library keeps nothing. */
 static struct keshgurvat_sender sender;
-static uint8_t store[KESHGURVAT_STORE], frame[KESHGURVAT_FRAME], air[KESHGURVAT_FRAME], far_end[KESHGURVAT_FRAME]; /* room for either set */
-static uint32_t first; /* the count of the night's first frame */
-static size_t four;    /* the frames until four o'clock */
-static uint32_t count_at(size_t now) { return first + (uint32_t)now; } /* 0 comes behind FFFFFFFF */
+static uint8_t store[KESHGURVAT_STORE], frame[8190], air[8190], far_end[8190];
 
 /* The balance of bytes, of each id at each receiver: each useful byte of an accepted packet is in one of the other four sums. */
 enum { USEFUL, DELIVERED, DROPPED, OPEN, SKIPPED, SUMS };
@@ -38,8 +32,7 @@ static struct ear {
 
 /* and its own books: of each queue the units loaded and delivered, and of each unfinished unit when it came and its promise */
 static struct book {
-    size_t loaded, no_room, delivered, packets, most; /* most: packets that waited at once */
-    size_t longest[2], promise[2]; /* of the units loaded until four, and from then on: the longest wait, and what was promised there */
+    size_t loaded, no_room, delivered, packets, most, longest, promise; /* most: packets that waited at once */
     size_t since[16], bound[16], length[16]; /* by the unit's number modulo 16; at most eight are unfinished */
 } book[QUEUES];
 static size_t filler, faults; /* filler in packets */
@@ -51,20 +44,10 @@ static void fault(const char *what, size_t number) {
 /* the bytes of a unit, so that the far end can tell them */
 static uint8_t content(size_t id, size_t unit, size_t i) { return (uint8_t)(37 * id + 101 * unit + i + i / 256); }
 
-/* The promise to a unit with k packets waiting, its own among them: the frames from this one on until its queue's shares, each of the set in force
-   at its frame, add up to k. It is known ahead as long as nobody replaces the set that waits. Here every share is 1 or more; with a share of 0 for
-   good nothing is promised, and this would not end. */
-static size_t of(struct keshgurvat_three t, size_t id) { return id == NEWS ? t.a : id == MAPS ? t.b : t.c; }
-static size_t promised(size_t id, size_t k, size_t now) {
-    const struct keshgurvat_second *next = &settings.second;
-    size_t share = of(settings.share, id), frames = 0;
-    for (size_t sum = 0; sum < k; sum += share, frames++)
-        if (next->waits && next->count == count_at(now + frames)) share = of(next->share, id);
-    return frames;
-}
-
-/* A unit for a queue. The sender keeps k: no host adds up units. */
+/* A unit for a queue. With k packets waiting then, its own among them, and a share of s it is wholly sent within k/s frames, rounded up.
+   The sender keeps k: no host adds up units. */
 static bool offer(size_t id, size_t length, size_t now) {
+    const size_t share[QUEUES] = {settings.share.a, settings.share.b, settings.share.c};
     static uint8_t unit[KESHGURVAT_QUEUE];
     struct book *b = &book[id];
     for (size_t i = 0; i < length; i++) unit[i] = content(id, b->loaded, i);
@@ -80,19 +63,19 @@ static bool offer(size_t id, size_t length, size_t now) {
     sender = l.next;
     size_t at = b->loaded++ % 16;
     b->since[at] = now, b->length[at] = length;
-    b->bound[at] = promised(id, sender.waiting[id], now);
+    b->bound[at] = (sender.waiting[id] + share[id] - 1) / share[id];
     if (sender.waiting[id] > b->most) b->most = sender.waiting[id];
     return true;
 }
 
 static void delivered(size_t id, size_t length, size_t now) {
     struct book *b = &book[id];
-    size_t unit = b->delivered++, at = unit % 16, took = now - b->since[at] + 1, later = b->since[at] >= four;
+    size_t unit = b->delivered++, at = unit % 16, took = now - b->since[at] + 1;
     bool same = unit < b->loaded && length == b->length[at];
     for (size_t i = 0; same && i < length; i++) same = ear[HALL].buffer[KESHGURVAT_QUEUE * id + i] == content(id, unit, i);
     if (!same) fault("a unit came back otherwise", unit);
     if (took > b->bound[at]) fault("a unit came late", unit);
-    if (took > b->longest[later]) b->longest[later] = took, b->promise[later] = b->bound[at];
+    if (took > b->longest) b->longest = took, b->promise = b->bound[at];
 }
 
 /* What stands in a packet. No call tells it: the host reads the first byte and, of a padded packet, the count behind it. */
@@ -131,13 +114,11 @@ static void hear(struct ear *e, const uint8_t *packet, size_t now) {
     if (r.delivered && !e->misses) delivered(r.id, r.length, now); /* where units are lost, the next is not the next loaded */
 }
 
-/* The frame names its count. The record that it gives back is the host's from then on: that is the whole of the switch. */
 static void run_frame(size_t now) {
-    struct keshgurvat_framed f = keshgurvat_frame(sender, settings, count_at(now), store, sizeof store, frame, sizeof frame);
+    const size_t size = settings.p + 3, whole = settings.n * size;
+    struct keshgurvat_framed f = keshgurvat_frame(sender, settings, store, sizeof store, frame, sizeof frame);
     if (f.number) fault("a frame is refused with", f.number);
-    sender = f.next, settings = f.settings;
-    const size_t size = settings.p + 3, whole = settings.n * size, packets = f.packets.a + f.packets.b + f.packets.c + f.filler;
-    if (packets != (now < four ? PACKETS : bought.n) || packets != settings.n) fault("a frame has packets of another set", packets);
+    sender = f.next;
     book[NEWS].packets += f.packets.a, book[MAPS].packets += f.packets.b, book[TIMETABLE].packets += f.packets.c;
     filler += f.filler;
     uint32_t there = keshgurvat_disperse(frame, whole, air, sizeof air), back = keshgurvat_disperse(air, whole, far_end, sizeof far_end);
@@ -181,39 +162,28 @@ int main(int argc, char **argv) {
     }
     sender = keshgurvat_sender_fresh();
     for (size_t i = 0; i < EARS; i++) ear[i].receiver = keshgurvat_receiver_fresh();
-    first = 0u - (uint32_t)(2 * hour + hour / 2); /* so that half past three is frame 0 */
-    four = 3 * hour;
-    struct keshgurvat_changed c = keshgurvat_change(settings, count_at(four), bought.n, bought.share, bought.ceiling);
-    if (c.number) fault("the second set is refused with", c.number);
-    settings = c.next;
     size_t now = 0, maps_left = 0;
-    printf("packets sent          from frame  each %8s %8s %9s   filler  dropped: hall   valley  not yet loaded\n",
-           name[NEWS], name[MAPS], name[TIMETABLE]);
-    for (int turn = 0; turn < 4; turn++) {
-        static const char *const hours[] = {"two to three, summer", "two to three, winter", "three to four", "four to five"};
+    printf("packets sent           %8s %8s %9s   filler  dropped: hall   valley  not yet loaded\n", name[NEWS], name[MAPS], name[TIMETABLE]);
+    for (int turn = 1; turn <= 2; turn++) {
         size_t news = book[NEWS].packets, maps = book[MAPS].packets, table = book[TIMETABLE].packets, none = filler;
         size_t hall = all_ids(&ear[HALL], DROPPED), valley = all_ids(&ear[VALLEY], DROPPED);
-        uint32_t from = count_at(now);
-        if (turn < 2) maps_left += map_files; /* two o'clock, and two o'clock again */
+        maps_left += map_files; /* two o'clock, and two o'clock again */
         now = run_hour(now, hour, &maps_left);
-        printf("%-23s %08X  %4zu %8zu %8zu %9zu %8zu %14zu %8zu  %zu map files\n", hours[turn], (unsigned)from, settings.n,
+        printf("%-22s %8zu %8zu %9zu %8zu %14zu %8zu  %zu map files\n", turn == 1 ? "two to three, summer" : "two to three, winter",
                book[NEWS].packets - news, book[MAPS].packets - maps, book[TIMETABLE].packets - table, filler - none,
                all_ids(&ear[HALL], DROPPED) - hall, all_ids(&ear[VALLEY], DROPPED) - valley, maps_left);
     }
-    if (settings.second.waits) fault("the second set still waits for", settings.second.count);
-    printf("\nqueue        loaded  delivered  no room   packets wait  at most   until four: longest wait  promise");
-    printf("   from four on: longest wait  promise\n");
+    printf("\nqueue        loaded  delivered  no room   packets wait  at most  longest wait  promise\n");
     for (size_t id = 0; id < QUEUES; id++) {
         const struct book *b = &book[id];
-        printf("%-10s %8zu %10zu %8zu %14u %8zu %19zu frames %8zu %21zu frames %8zu\n", name[id], b->loaded, b->delivered, b->no_room,
-               sender.waiting[id], b->most, b->longest[0], b->promise[0], b->longest[1], b->promise[1]);
+        printf("%-10s %8zu %10zu %8zu %14u %8zu %6zu frames %8zu\n", name[id], b->loaded, b->delivered, b->no_room,
+               sender.waiting[id], b->most, b->longest, b->promise);
         if (b->delivered + sender.q[id].count != b->loaded) fault("units are missing in queue", id);
     }
     printf("\nbytes          useful  delivered    dropped       open    skipped  packets lost\n");
     for (size_t i = 0; i < EARS; i++) print_balance(&ear[i]);
     printf("\nBytes of units dropped in the night, in the hall: %zu.\n", all_ids(&ear[HALL], DROPPED));
-    printf("The longest wait of a news page was %zu frames until four, promised %zu, and %zu frames from four on, promised %zu: %s.\n",
-           book[NEWS].longest[0], book[NEWS].promise[0], book[NEWS].longest[1], book[NEWS].promise[1],
-           faults ? "NOT KEPT" : "kept, by these pages and by every other unit");
+    printf("The longest wait of a news page was %zu frames; the promise was %zu: %s.\n", book[NEWS].longest, book[NEWS].promise,
+           faults ? "NOT KEPT" : "kept, by this page and by every other unit");
     return faults != 0;
 }

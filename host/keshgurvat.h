@@ -1,13 +1,11 @@
 /* The verified multiplexer core, for a host in C (C99, C11) or C++ (from C++11), on x86-64 Linux: link libkeshgurvat.a.
 
-   Numbers given back are document 01's: 0 is done, and a refusal leaves all lent memory as it was and hands state and settings back as they
-   came.
+   Numbers given back are document 01's: 0 is done, and a refusal leaves all lent memory as it was and hands the state back as it came.
    Behind each call stand its refusals in the order tried. Every call takes every number and every byte; what the C side owes is that a
    pointer is good for the length beside it (not null, also for length 0), that no two buffers of a call overlap where one is written, and
    that a bool is 0 or 1. The calls keep nothing between them: a state belongs to the caller, and two threads may use two states at once.
 
-   A struct that is handed over and back is the whole state. A run hands each call the state, the settings record and the store that the last one
-   left; a load gives no record back, since it leaves it as it was. */
+   A struct that is handed over and back is the whole state. A run hands each call the state and the store that the last one left. */
 #ifndef KESHGURVAT_H
 #define KESHGURVAT_H
 #include <stddef.h>
@@ -32,7 +30,6 @@ extern "C" {
 #define KESHGURVAT_QUEUE 4096u    /* a queue's part of the store, an id's part of the receiver's buffer, the longest unit */
 #define KESHGURVAT_STORE 12288u   /* the sender's store: queues 0, 1, 2 */
 #define KESHGURVAT_BUFFER 16384u  /* the receiver's buffer: ids 0 to 3 */
-#define KESHGURVAT_FRAME 8190u    /* the longest frame: an output that is enough for every set */
 
 /* One number for each of the queues 0, 1, 2. */
 struct keshgurvat_three {
@@ -43,55 +40,16 @@ KESHGURVAT_FIELD(keshgurvat_three, a, 0);
 KESHGURVAT_FIELD(keshgurvat_three, b, 8);
 KESHGURVAT_FIELD(keshgurvat_three, c, 16);
 
-/* A second set of settings (E10 of 02): whether one waits, the count of the frame at which it takes over, and its n, share and ceiling, read as
-   below and with the p of the record that it stands in. Where waits is false the rest is not looked at, and a frame gives it back as it came: a
-   second of {0} is "none". The three bytes behind waits are padding and say nothing. */
-struct keshgurvat_second {
-    bool waits;
-    uint32_t count;
-    size_t n;
-    struct keshgurvat_three share, ceiling;
-};
-KESHGURVAT_LAYOUT(sizeof(struct keshgurvat_second) == 64);
-KESHGURVAT_FIELD(keshgurvat_second, waits, 0);
-KESHGURVAT_FIELD(keshgurvat_second, count, 4);
-KESHGURVAT_FIELD(keshgurvat_second, n, 8);
-KESHGURVAT_FIELD(keshgurvat_second, share, 16);
-KESHGURVAT_FIELD(keshgurvat_second, ceiling, 40);
-
-/* The settings record: p data bytes a packet; set one, which is n packets a frame, and of each queue the packets it is sure of in a frame and
-   the most it gets; and the second set. An initialiser that names p, n, share and ceiling alone, {.p = 97, .n = 12, ..}, leaves zeros in second,
-   so that those written before E10 still compile and mean that none waits.
-   Who performs the switch: the frame call, in the record that it gives back. A frame that names the count for which a set waits is filled by
-   that set, and the record in its answer has the set as set one, and zeros in second. Hand that record, framed.settings, to the next call; a
-   host that goes on with its old record has not switched. Every other accepted frame gives the record back as it came, and so does a refused
-   one: it takes nothing over, and the same count may be tried again.
-   Counts are compared for equality, and nothing else: that FFFFFFFF is followed by 0 needs no care, no order of counts is asked for, and a count
-   that is skipped leaves the set waiting. So does a count that has gone by when the set is entered, until it is named again.
-   keshgurvat_change enters a second set. It is where a bad set is refused before it can harm: of a record in which a bad one waits every call is
-   13, whatever the frame, and the stream would stand still. A set that waits may be replaced until its frame. No call takes it away; to stay
-   with set one, change to set one's own numbers.
-   Units, bytes sent, waiting, start, turn and indexes are not touched by the switch. */
+/* p data bytes a packet, n packets a frame; of each queue the packets it is sure of in a frame, and the most it gets. */
 struct keshgurvat_settings {
     size_t p, n;
     struct keshgurvat_three share, ceiling;
-    struct keshgurvat_second second;
 };
-KESHGURVAT_LAYOUT(sizeof(struct keshgurvat_settings) == 128);
+KESHGURVAT_LAYOUT(sizeof(struct keshgurvat_settings) == 64);
 KESHGURVAT_FIELD(keshgurvat_settings, p, 0);
 KESHGURVAT_FIELD(keshgurvat_settings, n, 8);
 KESHGURVAT_FIELD(keshgurvat_settings, share, 16);
 KESHGURVAT_FIELD(keshgurvat_settings, ceiling, 40);
-KESHGURVAT_FIELD(keshgurvat_settings, second, 64);
-
-/* The answer to a change: the number, and the settings record after it, as it came where it is refused. */
-struct keshgurvat_changed {
-    uint32_t number;
-    struct keshgurvat_settings next;
-};
-KESHGURVAT_LAYOUT(sizeof(struct keshgurvat_changed) == 136);
-KESHGURVAT_FIELD(keshgurvat_changed, number, 0);
-KESHGURVAT_FIELD(keshgurvat_changed, next, 8);
 
 /* One queue: its unfinished units in order, with the bytes left of each (places from count on say nothing), and how many bytes of the
    first are sent. */
@@ -109,9 +67,8 @@ KESHGURVAT_FIELD(keshgurvat_queue, sent, 24);
    waiting (E1 of 02) is, of each queue, the packets of p data bytes that its units still take: the bytes left of each unit over p, rounded
    up, and these added up. load and frame keep it; a caller reads it, as the desk display does, and adds up nothing. A state in which one of
    the three differs from that sum, for the p of the call's settings, is 17 in load and in frame, whichever queue it is; so the way to another
-   p, which is another record and no second set, is to let all three queues run empty. After an accepted load next.waiting[id] is the k of the
-   promise: the unit is wholly sent once the queue's shares in the frames written since, each as it was in force at its frame, add up to k. While
-   a share of s stands that is within k/s frames, rounded up; a frame with share 0 adds nothing.
+   p is to let all three queues run empty. After an accepted load next.waiting[id] is the k of the promise: with a share of s the unit is
+   wholly sent within k/s frames, rounded up.
    start (E9 of 02): a queue is a ring in its 4,096 bytes of the store. Byte i of its unsent bytes, which are the bytes left of its units one
    behind the other, is store[4096 * id + (start[id] + i) % 4096]. load leaves start as it is, frame moves it by the useful bytes that it sent,
    modulo 4,096, also where the queue runs empty: which bytes are unsent the units say, and a full ring may begin anywhere. The other bytes of
@@ -141,22 +98,19 @@ KESHGURVAT_FIELD(keshgurvat_loaded, number, 0);
 KESHGURVAT_FIELD(keshgurvat_loaded, next, 8);
 
 /* The answer to a frame: the number, the sender after it, the packets of each queue in the frame, the spares among them, and the filler;
-   and the settings record for the next call, whose set one filled this frame. Packets and filler add up to settings.n, and the frame is
-   settings.n (p + 3) bytes. Where it is refused the counts are 0, and sender and record are as they came. */
+   the counts are 0 where it is refused. */
 struct keshgurvat_framed {
     uint32_t number;
     struct keshgurvat_sender next;
     struct keshgurvat_three packets;
     size_t spares, filler;
-    struct keshgurvat_settings settings;
 };
-KESHGURVAT_LAYOUT(sizeof(struct keshgurvat_framed) == 296);
+KESHGURVAT_LAYOUT(sizeof(struct keshgurvat_framed) == 168);
 KESHGURVAT_FIELD(keshgurvat_framed, number, 0);
 KESHGURVAT_FIELD(keshgurvat_framed, next, 8);
 KESHGURVAT_FIELD(keshgurvat_framed, packets, 128);
 KESHGURVAT_FIELD(keshgurvat_framed, spares, 152);
 KESHGURVAT_FIELD(keshgurvat_framed, filler, 160);
-KESHGURVAT_FIELD(keshgurvat_framed, settings, 168);
 
 /* What the receiver knows of one id: whether a packet of it has come, the index that the next one should have, whether a unit is open, and
    its bytes so far (0 where none is open). */
@@ -209,35 +163,25 @@ uint32_t keshgurvat_disperse(const uint8_t *input, size_t input_length, uint8_t 
    13: p outside 1 to 255. 1: a length other than p + 3. 16: the check word; a padded packet's count over p - 1. */
 uint32_t keshgurvat_packet_check(size_t p, const uint8_t *packet, size_t packet_length);
 
-/* Whether a settings record is within 01's limits: set one, and the second set where one waits.
-   13: p outside 1 to 255; of either set n 0, n (p + 3) over 8,190, a share over its ceiling, a ceiling 0 or over n, shares over n together. */
+/* Whether settings are within 01's limits.
+   13: p outside 1 to 255; n 0; n (p + 3) over 8,190; a share over its ceiling; a ceiling 0 or over n; shares over n together. */
 uint32_t keshgurvat_settings_check(struct keshgurvat_settings settings);
-
-/* The record with this set waiting for the next frame that names this count, in place of one that waited before; p and set one stay. It may
-   be called at any time between frames; a set that is entered for the very next one fills that one.
-   13: the record, as above; this set with the record's p, by the same limits. */
-struct keshgurvat_changed keshgurvat_change(struct keshgurvat_settings settings, uint32_t count, size_t n, struct keshgurvat_three share,
-                                            struct keshgurvat_three ceiling);
 
 /* A sender with no unit, turn 0, indexes 0, none waiting, starts 0; the store beside it may have any content. No refusals. */
 struct keshgurvat_sender keshgurvat_sender_fresh(void);
 
 /* A unit for queue id; its bytes go to the store, behind the unsent ones of its queue, at the front of the queue's 4,096 bytes where they reach
-   their end, and no other byte of the store is written. waiting[id] rises by the packets that it takes. A load names no frame and takes no set over.
-   13: the record, a set that waits included. 17: the state, as 01 lists it, or where one of the three in waiting is not the sum for this p or one
-   of the three in start is over 4,095; never in a run from a fresh sender that hands the record on, in which p cannot change. 1: a store other
-   than 12,288 bytes; a unit over 65,528. 14: a unit empty or over 4,096 bytes; id over 2. 15: eight units unfinished, or too few bytes free in
-   the queue. */
+   their end, and no other byte of the store is written. waiting[id] rises by the packets that it takes.
+   13: the settings. 17: the state, as 01 lists it, or where one of the three in waiting is not the sum for this p or one of the three in start
+   is over 4,095; never in a run from a fresh sender with p unchanged. 1: a store other than 12,288 bytes; a unit over 65,528. 14: a unit empty
+   or over 4,096 bytes; id over 2. 15: eight units unfinished, or too few bytes free in the queue. */
 struct keshgurvat_loaded keshgurvat_load(struct keshgurvat_sender state, struct keshgurvat_settings settings,
                                          uint8_t *store, size_t store_length, size_t id, const uint8_t *unit, size_t unit_length);
 
-/* The next frame, which has this count, by the set in force at it: the second set where one waits for this count, else set one. It is n (p + 3)
-   bytes of that set, to the front of the output; waiting falls by the packets of each queue in it, and start moves by their useful bytes. The
-   store is only read, and may stand where nothing can be written. Every count is taken, and none is kept. Lend KESHGURVAT_FRAME bytes: an output
-   that is just enough for set one is refused with 1 at the frame of a larger set, and that set waits on.
-   13: the record, a set that waits included, also where this is not its frame. 17: the state, as above. 1: a store other than 12,288 bytes.
-   1, last: an output under n (p + 3) bytes of the set in force. */
-struct keshgurvat_framed keshgurvat_frame(struct keshgurvat_sender state, struct keshgurvat_settings settings, uint32_t count,
+/* The next frame, n (p + 3) bytes, to the front of the output; waiting falls by the packets of each queue in it, and start moves by their
+   useful bytes. The store is only read, and may stand where nothing can be written.
+   13: the settings. 17: the state, as above. 1: a store other than 12,288 bytes. 1, last: an output under n (p + 3) bytes. */
+struct keshgurvat_framed keshgurvat_frame(struct keshgurvat_sender state, struct keshgurvat_settings settings,
                                           const uint8_t *store, size_t store_length, uint8_t *output, size_t output_length);
 
 /* A receiver that no packet has come to. No refusals. */

@@ -50,39 +50,18 @@ uint32_t model_check(size_t p, const uint8_t *packet, size_t n) {
     return 0;
 }
 
-/* ---- settings: p, a set of n, shares and ceilings, and a second set that may wait for its frame (E10 of 02) */
+/* ---- settings */
 static void three(const struct keshgurvat_three *t, size_t to[3]) { to[0] = t->a, to[1] = t->b, to[2] = t->c; }
 
-static bool is_allowed(size_t p, size_t n, const struct keshgurvat_three *shares, const struct keshgurvat_three *ceilings) {
-    size_t share[3], ceiling[3], free = n;
-    three(shares, share), three(ceilings, ceiling);
-    if (p < 1 || p > 255 || n < 1 || n > 8190 / (p + 3)) return false;
+uint32_t model_settings(const struct keshgurvat_settings *s) {
+    size_t share[3], ceiling[3], free = s->n;
+    three(&s->share, share), three(&s->ceiling, ceiling);
+    if (s->p < 1 || s->p > 255 || s->n < 1 || s->n > 8190 / (s->p + 3)) return 13;
     for (int i = 0; i < 3; i++) {
-        if (share[i] > ceiling[i] || ceiling[i] < 1 || ceiling[i] > n || share[i] > free) return false;
+        if (share[i] > ceiling[i] || ceiling[i] < 1 || ceiling[i] > s->n || share[i] > free) return 13;
         free -= share[i];
     }
-    return true;
-}
-
-uint32_t model_settings(const struct keshgurvat_settings *s) {
-    const struct keshgurvat_second *t = &s->second;
-    if (!is_allowed(s->p, s->n, &s->share, &s->ceiling)) return 13;
-    return t->waits && !is_allowed(s->p, t->n, &t->share, &t->ceiling) ? 13 : 0;
-}
-
-uint32_t model_change(struct keshgurvat_settings *s, uint32_t count, size_t n, struct keshgurvat_three share, struct keshgurvat_three ceiling) {
-    if (model_settings(s) || !is_allowed(s->p, n, &share, &ceiling)) return 13;
-    s->second.waits = true, s->second.count = count;
-    s->second.n = n, s->second.share = share, s->second.ceiling = ceiling;
     return 0;
-}
-
-/* whether the second set takes over at the frame with this count; then it is set one, and none waits */
-static bool is_due(const struct keshgurvat_settings *s, uint32_t count) { return s->second.waits && s->second.count == count; }
-
-static void take_over(struct keshgurvat_settings *s) {
-    s->n = s->second.n, s->share = s->second.share, s->ceiling = s->second.ceiling;
-    memset(&s->second, 0, sizeof s->second);
 }
 
 /* ---- the sender: a queue as the list of its units' lengths left, its unsent bytes in a ring or, as before E9 of 02, at the front */
@@ -208,20 +187,18 @@ static size_t send_row(struct keshgurvat_sender *state, size_t p, size_t id, siz
     return sent;
 }
 
-static uint32_t frame_number(const struct keshgurvat_sender *state, const struct keshgurvat_settings *s, uint32_t count, enum layout layout,
-                             size_t room, size_t size) {
-    size_t n = is_due(s, count) ? s->second.n : s->n; /* in force at this frame */
+static uint32_t frame_number(const struct keshgurvat_sender *state, const struct keshgurvat_settings *s, enum layout layout, size_t room,
+                             size_t size) {
     if (model_settings(s)) return 13;
     if (is_astray(state, layout) || is_17(state, s->p)) return 17;
-    return room != 12288 || size < n * (s->p + 3) ? 1 : 0;
+    return room != 12288 || size < s->n * (s->p + 3) ? 1 : 0;
 }
 
-uint32_t model_frame(struct keshgurvat_sender *state, struct keshgurvat_settings *s, uint32_t count, const uint8_t *store, size_t room,
-                     uint8_t *out, size_t size, struct model_counts *counts) {
+uint32_t model_frame(struct keshgurvat_sender *state, const struct keshgurvat_settings *s, const uint8_t *store, size_t room, uint8_t *out,
+                     size_t size, struct model_counts *counts) {
     memset(counts, 0, sizeof *counts);
-    uint32_t number = frame_number(state, s, count, RINGS, room, size);
+    uint32_t number = frame_number(state, s, RINGS, room, size);
     if (number) return number;
-    if (is_due(s, count)) take_over(s);
     hand_out(state, s, counts);
     for (size_t id = 0; id < 3; id++) {
         uint8_t line[4096];
@@ -234,12 +211,11 @@ uint32_t model_frame(struct keshgurvat_sender *state, struct keshgurvat_settings
     return 0;
 }
 
-uint32_t model_frame_front(struct keshgurvat_sender *state, struct keshgurvat_settings *s, uint32_t count, uint8_t *store, size_t room,
-                           uint8_t *out, size_t size, struct model_counts *counts) {
+uint32_t model_frame_front(struct keshgurvat_sender *state, const struct keshgurvat_settings *s, uint8_t *store, size_t room, uint8_t *out,
+                           size_t size, struct model_counts *counts) {
     memset(counts, 0, sizeof *counts);
-    uint32_t number = frame_number(state, s, count, FRONT, room, size);
+    uint32_t number = frame_number(state, s, FRONT, room, size);
     if (number) return number;
-    if (is_due(s, count)) take_over(s);
     hand_out(state, s, counts);
     for (size_t id = 0; id < 3; id++) {
         uint8_t *part = store + 4096 * id;

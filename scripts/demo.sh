@@ -1,8 +1,7 @@
 #!/bin/sh
 # demo.sh [NAME=NUMBER ..]: the main job. First the worked example of ES 201 980, annex C: its description cuts a frame of 1,200 bytes.
 # Then the night with two two-o'clocks; arguments are what is other than in the usual night (a wrong one makes it list the names). At the
-# end stand the last lines of the same night with packets lost on the way, unless an argument says itself how many are, and of the same night
-# with new shares from a frame on, unless an argument says itself from which.
+# end stand the last lines of the same night with packets lost on the way, unless an argument says itself how many are.
 # The two programs and what they stand on are proved first, where they are not yet; meanwhile it shows how far that is.
 set -eu
 ROOT=$(cd "$(dirname "$0")/.." && pwd -P)
@@ -70,20 +69,13 @@ printf '\004\260\001\000\004\121\003\260\000\001\060\000' | run_program layout
 echo
 # shellcheck disable=SC2086
 run_program night $numbers
-
-# also TITLE LINES WISHES: of the same night with WISHES before its own, what sed takes by LINES; nothing where it cannot be run
-also() {
-    numbers=$(WISHES=$3 awk -f scripts/night.awk crates/night/args)
-    # shellcheck disable=SC2086
-    rows=$(run_program night $numbers | sed -n "$2")
-    [ -z "$rows" ] || printf '\n%s\n%s\n' "$1" "$rows"
-}
-
 case " $*" in
 *' '[Ll][Oo][Ss][Ee]=*) ;;
-*) also 'The same night, each 50th packet lost on the way:' '/^packets lost/,$p' "lose=50 $*" ;;
-esac
-case " $*" in
-*' '[Aa][Tt]=*) ;;
-*) also "The same night with new shares from three o'clock on:" '/new shares:/p; /^news pages/,$p' "more0=6 at=61 $*" ;;
+*)
+    numbers=$(WISHES="$* lose=50" awk -f scripts/night.awk crates/night/args)
+    # a night that cannot be run has no such lines
+    # shellcheck disable=SC2086
+    rows=$(run_program night $numbers | sed -n '/^packets lost/,$p')
+    [ -z "$rows" ] || printf '\nThe same night, each 50th packet lost on the way:\n%s\n' "$rows"
+    ;;
 esac

@@ -4,7 +4,7 @@
 set -eu
 ROOT=$(cd "$(dirname "$0")/.." && pwd -P)
 # the first number rises where a struct or a call of the header changes
-VERSION=5.0.0
+VERSION=4.0.0
 prefix=${1:-} dest=${2:-} archive=${3:-}
 case $prefix in
 /*) ;;

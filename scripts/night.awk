@@ -2,12 +2,11 @@
 # program's arguments. The file has those of the usual night, and WISHES names what is to be other, in upper or lower case. A wrong wish
 # gets a sentence and the list of the names, and status 1.
 BEGIN {
-    count = split("p n share0 share1 share2 ceiling0 ceiling1 ceiling2 news map station every files frames lose more0 at", name, " ")
+    count = split("p n share0 share1 share2 ceiling0 ceiling1 ceiling2 news map station every files frames lose", name, " ")
     split("data bytes of a packet|packets of a frame|packets that queue 0, the news pages, is owed|packets that queue 1, the map files, is owed|" \
         "packets that queue 2, the station data, is owed|the most that queue 0 gets|the most that queue 1 gets|the most that queue 2 gets|" \
         "bytes of a news page|bytes of a map file|bytes of a station's data|frames from one news page to the next|map files of the job|" \
-        "frames of the night, a quarter of them an hour|50: each 50th packet is lost on the way; 0: none is|" \
-        "packets that queue 0 is owed from frame `at` on, if any|the frame from which it is owed more0; 0: from none", means, "|")
+        "frames of the night, a quarter of them an hour|50: each 50th packet is lost on the way; 0: none is", means, "|")
     for (k = 1; k <= count; k++) place[name[k]] = k
 }
 

@@ -1,7 +1,7 @@
 #!/bin/sh
 # test.sh COUNT [SEED]: the test command. Ends in exactly one last line 'N passed, M failed'; status 0 only where M is 0.
-# N counts the layout check, each public call held against its promise, rt's passes, the reading of the edits and of their logs, the wishes,
-# the losses and the new shares of a night, the tests of the second program, each case of the fresh set, and each comparison of the C host. Before that line stands where
+# N counts the layout check, each public call held against its promise, rt's passes, the reading of the edits and of their logs, the wishes
+# and the losses of a night, the tests of the second program, each case of the fresh set, and each comparison of the C host. Before that line stands where
 # the time went; no limit in it fails the test.
 set -u
 ROOT=$(cd "$(dirname "$0")/.." && pwd -P)
@@ -97,7 +97,6 @@ counted "proofs, must-fail edits, programs" sh scripts/proofs.sh "$room"
 whole "what the edits show" sh scripts/edits.sh
 whole "what a night may be wished" sh scripts/wishes.sh
 whole "a night with packets lost on the way" sh scripts/losses.sh
-whole "a night with new shares" sh scripts/shares.sh
 counted "the second program's own tests" sh scripts/unit.sh
 echo "The seed of the cases is $seed (repeat with: make test SEED=$seed COUNT=$count)."
 counted "fresh cases, compared with the second program" sh scripts/fresh.sh "$count" "$seed"

@@ -42,8 +42,6 @@ every EVERY 0
 files FILES 0
 frames FRAMES 0
 lose LOSE 0
-more0 MORE 0
-at AT 0
 END
 for wish in q=1 p p= =1 p=-1 p=1x p=1000000 p==1 'n=3 q=1'; do
     ! numbers "$wish" >/dev/null || fail "$wish is taken"

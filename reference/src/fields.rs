@@ -7,8 +7,7 @@ use crate::description::Description;
 use crate::fac::{self, Fac};
 use crate::reader::Reader;
 use crate::receiver::Receiver;
-use crate::record::{Record, Second, Set};
-use crate::sender::{Queue, Sender};
+use crate::sender::{Queue, Sender, Settings};
 use crate::show;
 
 /// What is done with each field. None where a body is malformed.
@@ -52,7 +51,8 @@ pub trait Fields {
         Some(())
     }
 
-    fn set(&mut self, _name: &str, field: &mut Set) -> Option<()> {
+    fn settings(&mut self, field: &mut Settings) -> Option<()> {
+        self.number("p", &mut field.p)?;
         self.number("N", &mut field.packets)?;
         for share in &mut field.shares {
             self.number("share", share)?;
@@ -61,17 +61,6 @@ pub trait Fields {
             self.number("ceiling", ceiling)?;
         }
         Some(())
-    }
-
-    /// What docs/CASES.md calls settings.
-    fn record(&mut self, field: &mut Record) -> Option<()> {
-        let mut first = Set::of(&field.first);
-        self.number("p", &mut field.first.p)?;
-        self.set("set in force", &mut first)?;
-        field.first = first.with(field.first.p);
-        self.byte("waits", &mut field.second.waits)?;
-        self.word("frame count", &mut field.second.count)?;
-        self.set("second set", &mut field.second.set)
     }
 
     fn sender(&mut self, field: &mut Sender) -> Option<()> {
@@ -193,16 +182,6 @@ impl Fields for Vec<u8> {
     }
 }
 
-/// A set in a line.
-fn words(set: &Set) -> String {
-    let Set {
-        packets,
-        shares,
-        ceilings,
-    } = set;
-    format!("N {packets}, shares {shares:?}, ceilings {ceilings:?}")
-}
-
 /// Prints, a line each.
 impl Fields for Vec<String> {
     fn byte(&mut self, name: &str, field: &mut u8) -> Option<()> {
@@ -257,16 +236,16 @@ impl Fields for Vec<String> {
         Some(())
     }
 
-    fn set(&mut self, name: &str, field: &mut Set) -> Option<()> {
-        self.push(format!("{name}: {}", words(field)));
-        Some(())
-    }
-
-    fn record(&mut self, field: &mut Record) -> Option<()> {
-        let (p, first) = (field.first.p, words(&Set::of(&field.first)));
-        let Second { waits, count, set } = field.second;
-        let second = format!("waits {waits}, for frame count {count}: {}", words(&set));
-        self.push(format!("settings: p {p}, {first}; second set {second}"));
+    fn settings(&mut self, field: &mut Settings) -> Option<()> {
+        let Settings {
+            p,
+            packets,
+            shares,
+            ceilings,
+        } = field;
+        self.push(format!(
+            "settings: p {p}, N {packets}, shares {shares:?}, ceilings {ceilings:?}"
+        ));
         Some(())
     }
 
@@ -365,37 +344,6 @@ mod tests {
         for end in 0..BODY.len() {
             assert_eq!(All::read(&mut Reader::new(&BODY[..end])), None);
         }
-    }
-
-    /// 125 bytes: p, the set in force, whether one waits, its count, and that set.
-    #[test]
-    fn a_record() {
-        let set = |first| Set {
-            packets: first,
-            shares: [first + 1, first + 2, first + 3],
-            ceilings: [first + 4, first + 5, first + 6],
-        };
-        let mut record = Record::waiting(set(2).with(1), 0xA0B0_C0D0, set(9));
-        let mut body: Vec<u8> = Vec::new();
-        assert_eq!(body.record(&mut record), Some(()));
-        let numbers = |bytes: &[u8]| -> Vec<u64> {
-            let words = bytes.chunks(8);
-            words
-                .map(|word| u64::from_be_bytes(word.try_into().unwrap()))
-                .collect()
-        };
-        assert_eq!(body.len(), 125);
-        assert_eq!(numbers(&body[..64]), [1, 2, 3, 4, 5, 6, 7, 8]);
-        assert_eq!(body[64..69], [1, 0xA0, 0xB0, 0xC0, 0xD0]);
-        assert_eq!(numbers(&body[69..]), [9, 10, 11, 12, 13, 14, 15]);
-        let mut read = Record::default();
-        assert_eq!(Reader::new(&body).record(&mut read), Some(()));
-        assert_eq!(read, record);
-        let mut lines: Vec<String> = Vec::new();
-        assert_eq!(lines.record(&mut record), Some(()));
-        let expected = "settings: p 1, N 2, shares [3, 4, 5], ceilings [6, 7, 8]; second set waits 1, \
-                        for frame count 2695938256: N 9, shares [10, 11, 12], ceilings [13, 14, 15]";
-        assert_eq!(lines, [expected]);
     }
 
     #[test]

@@ -127,7 +127,7 @@ mod tests {
         }
     }
 
-    /// None is malformed but the two with a width of three, seven scripts and one MDI record, and both outcomes of
+    /// None is malformed but the two with a width of three, five scripts and one MDI record, and both outcomes of
     /// dispersal occur.
     #[test]
     fn the_cases_are_good_ones() {
@@ -135,7 +135,7 @@ mod tests {
         let answers: Vec<_> = Entries::new(&file)
             .map(|entry| calls::answer(&entry))
             .collect();
-        assert_eq!(answers.iter().filter(|answer| answer.is_none()).count(), 10);
+        assert_eq!(answers.iter().filter(|answer| answer.is_none()).count(), 8);
         let refused = answers
             .iter()
             .flatten()

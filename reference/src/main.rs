@@ -1,8 +1,8 @@
 //! The second, independent program (document 01, end of "Marked examples").
 //!
 //! It answers cases from definitions written from document 01 and the standards alone: plain, bit by
-//! bit, and not fast. It also makes the cases, adds up what document 02, E1, E9, E10 and E11, claims of the
-//! runs in them, and compares another program's answers with its own. The framing of cases and answers is set out in
+//! bit, and not fast. It also makes the cases, adds up what document 02, E1, E9 and E11, claims of the runs in
+//! them, and compares another program's answers with its own. The framing of cases and answers is set out in
 //! docs/CASES.md. This file is the command line only.
 
 mod answer;
@@ -16,7 +16,6 @@ mod clock;
 mod compare;
 mod counts;
 mod crc;
-mod demand;
 mod description;
 mod dispersal;
 mod fac;
@@ -28,24 +27,19 @@ mod generate;
 mod items;
 mod layout_text;
 mod mdi;
-mod nights;
 mod numbers;
 mod output;
 mod packet;
 mod random;
 mod reader;
 mod receiver;
-mod record;
 mod recording;
 mod refusal;
 mod rings;
-mod rows;
 mod runs;
 mod sender;
 mod show;
 mod spares;
-mod steady;
-mod takeovers;
 
 use std::ffi::{OsStr, OsString};
 use std::io::{self, BufWriter, Read, Write};

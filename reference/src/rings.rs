@@ -62,10 +62,9 @@ fn without_starts(sender: &Sender) -> Sender {
     sender
 }
 
-/// A call at a sender, and the desks before and after it.
+/// A call at a sender: its settings, and the desks before and after it.
 pub struct Change<'a> {
-    /// Those in force; or the refusal of the record that they stand in.
-    pub settings: Result<Settings, Refusal>,
+    pub settings: &'a Settings,
     pub before: Desk<'a>,
     pub after: Desk<'a>,
 }
@@ -117,9 +116,7 @@ impl Rings {
             self.hold_past(change, done.err());
             return;
         };
-        let old = change
-            .settings
-            .and_then(|settings| fronts.load(&settings, id, unit));
+        let old = fronts.load(change.settings, id, unit);
         self.hold_answer(&done, &old);
         match done {
             Ok(()) => self.hold_places(change, id as usize, unit),
@@ -144,9 +141,7 @@ impl Rings {
             self.hold_output(&output, after);
             return;
         };
-        let old = change
-            .settings
-            .and_then(|settings| fronts.frame(&settings, &mut output));
+        let old = fronts.frame(change.settings, &mut output);
         self.hold_answer(done, &old);
         self.hold_output(&output, after);
         self.hold_store(change);
@@ -169,7 +164,11 @@ impl Rings {
 
     /// Of a state with a start past its ring.
     fn hold_past(&mut self, change: &Change, refusal: Option<Refusal>) {
-        let number = if change.settings.is_err() { 13 } else { 17 };
+        let number = if change.settings.check().is_err() {
+            13
+        } else {
+            17
+        };
         if refusal != Some(Refusal::number(number)) {
             self.differ(&format!("a start past its ring, and not {number}"));
         }
@@ -418,7 +417,7 @@ mod tests {
         let done = loaded.load(settings, &mut filled, 1, &unit);
         wrong(false, &mut loaded, &mut filled, &mut []);
         let change = Change {
-            settings: Ok(*settings),
+            settings,
             before: Desk::of(&sender, &store),
             after: Desk::of(&loaded, &filled),
         };
@@ -427,7 +426,7 @@ mod tests {
         let done = framed.frame(settings, &filled, &mut output);
         wrong(true, &mut framed, &mut left, &mut output);
         let change = Change {
-            settings: Ok(*settings),
+            settings,
             before: Desk::of(&loaded, &filled),
             after: Desk::of(&framed, &left),
         };
@@ -478,7 +477,7 @@ mod tests {
             let desk = Desk::of(&sender, &store);
             let mut rings = Rings::new(desk);
             let change = Change {
-                settings: Ok(*settings),
+                settings,
                 before: desk,
                 after: desk,
             };

@@ -1,16 +1,12 @@
 //! Runs at a sender and at a receiver: each call is handed what the last one left (document 01, "Packets, queues
-//! and receiver"), and what E1, E9 and E11 of document 02 claim of such a run is added up beside it. Runs that
-//! hand their settings record on as well, and what E10 claims of them: `nights`.
+//! and receiver"), and what E1, E9 and E11 of document 02 claim of such a run is added up beside it.
 
 use crate::balance::Balance;
 use crate::counts::{Called, Counts};
 use crate::receiver::{Heard, Receiver, BUFFER_BYTES};
-use crate::record::Record;
 use crate::refusal::Refusal;
 use crate::rings::{Change, Desk, Rings};
-use crate::sender::{HandOut, Sender};
-#[cfg(test)]
-use crate::sender::{Settings, STORE_BYTES};
+use crate::sender::{HandOut, Sender, Settings, STORE_BYTES};
 use crate::spares::{Frame, Spares};
 
 /// What was added up over a run.
@@ -26,13 +22,7 @@ pub struct Added {
     pub frames: u64,
     /// Runs of two or more of these frames.
     pub stretches: u64,
-    /// Calls after which the settings record was held against what they were handed.
-    pub records: u64,
-    /// Frames at which a second set took over.
-    pub takeovers: u64,
-    /// Units that were sent when the shares of their frames had added up.
-    pub demands: u64,
-    /// Where the run is not as E1, E9, E10 and E11 have it.
+    /// Where the run is not as E1, E9 and E11 have it.
     pub differences: Vec<String>,
 }
 
@@ -77,9 +67,6 @@ impl Added {
         self.layouts += other.layouts;
         self.frames += other.frames;
         self.stretches += other.stretches;
-        self.records += other.records;
-        self.takeovers += other.takeovers;
-        self.demands += other.demands;
         self.differences.extend_from_slice(&other.differences);
     }
 }
@@ -104,12 +91,16 @@ impl Sending {
         }
     }
 
-    pub fn load_by(&mut self, record: &Record, id: u64, unit: &[u8]) -> Result<(), Refusal> {
+    pub fn fresh() -> Sending {
+        Sending::new(Sender::default(), vec![0; STORE_BYTES])
+    }
+
+    pub fn load(&mut self, settings: &Settings, id: u64, unit: &[u8]) -> Result<(), Refusal> {
         let (before, store) = (self.sender, self.store.clone());
-        let done = record.load(&mut self.sender, &mut self.store, id, unit);
-        self.called(record.first.p, &before, done.err());
+        let done = self.sender.load(settings, &mut self.store, id, unit);
+        self.called(settings.p, &before, done.err());
         let change = Change {
-            settings: record.check().map(|()| record.first),
+            settings,
             before: Desk::of(&before, &store),
             after: Desk::of(&self.sender, &self.store),
         };
@@ -117,36 +108,24 @@ impl Sending {
         done
     }
 
-    /// What is handed out, and the record that is given back.
-    pub fn frame_by(
-        &mut self,
-        record: &Record,
-        count: u32,
-        output: &mut [u8],
-    ) -> Result<(HandOut, Record), Refusal> {
+    pub fn frame(&mut self, settings: &Settings, output: &mut [u8]) -> Result<HandOut, Refusal> {
         let (before, store, lent) = (self.sender, self.store.clone(), output.to_vec());
-        let done = record.frame(count, &mut self.sender, &self.store, output);
-        self.called(record.first.p, &before, done.as_ref().err().copied());
-        let settings = record.at(count).first;
+        let done = self.sender.frame(settings, &self.store, output);
+        self.called(settings.p, &before, done.as_ref().err().copied());
         let change = Change {
-            settings: record.check().map(|()| settings),
+            settings,
             before: Desk::of(&before, &store),
             after: Desk::of(&self.sender, &self.store),
         };
-        let handed = done.as_ref().map(|(out, _)| out.clone());
-        self.rings.frame(
-            &change,
-            [&lent, output],
-            &handed.map_err(|refusal| *refusal),
-        );
-        let (out, given) = done?;
+        self.rings.frame(&change, [&lent, output], &done);
+        let out = done?;
         self.spares.frame(&Frame {
-            settings: &settings,
+            settings,
             waiting: before.queues.map(|queue| queue.summed(settings.p)),
             turn: before.turn,
             out: &out,
         });
-        Ok((out, given))
+        Ok(out)
     }
 
     fn called(&mut self, p: u64, before: &Sender, refusal: Option<Refusal>) {
@@ -164,25 +143,6 @@ impl Sending {
         added.add(&Added::of_counts(&self.counts));
         added.add(&Added::of_rings(&self.rings));
         added
-    }
-}
-
-/// Runs of the tests from fresh, and calls with settings beside which no second set waits.
-#[cfg(test)]
-impl Sending {
-    pub fn fresh() -> Sending {
-        Sending::new(Sender::default(), vec![0; STORE_BYTES])
-    }
-
-    pub fn load(&mut self, settings: &Settings, id: u64, unit: &[u8]) -> Result<(), Refusal> {
-        self.load_by(&Record::from(*settings), id, unit)
-    }
-
-    pub fn frame(&mut self, settings: &Settings, output: &mut [u8]) -> Result<HandOut, Refusal> {
-        let record = Record::from(*settings);
-        let (out, given) = self.frame_by(&record, 0, output)?;
-        assert_eq!(given, record);
-        Ok(out)
     }
 }
 

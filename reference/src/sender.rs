@@ -183,19 +183,6 @@ impl Sender {
         refuse(17, self.indexes.iter().any(|index| *index > HIGHEST_INDEX))
     }
 
-    /// All of it as numbers, in the order of docs/CASES.md.
-    pub fn values(&self) -> Vec<u64> {
-        let mut values = Vec::new();
-        for queue in &self.queues {
-            values.extend([queue.units, queue.sent]);
-            values.extend([queue.waiting, queue.start].map(u64::from));
-            values.extend(queue.left.map(u64::from));
-        }
-        values.push(self.turn);
-        values.extend(self.indexes.map(u64::from));
-        values
-    }
-
     /// The stored counts.
     pub fn waiting(&self) -> [u64; QUEUES] {
         self.queues.map(|queue| u64::from(queue.waiting))

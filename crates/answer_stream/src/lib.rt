@@ -1,41 +1,35 @@
-// Calls 35 to 37 and 39 of docs/CASES.md: scripts of steps over a sender and a receiver, each step handed what the last one left. Nothing
-// here decides an answer.
+// Calls 35 to 37 of docs/CASES.md: scripts of steps over a sender and a receiver, each step handed what the last one left. Nothing here
+// decides an answer.
 use cases::case;
 use saying::Said;
 
-// The most steps of a script; 0 for a call that is none.
-fn most(call: u8) -> u8 {
-    match call {
-        35..=37 => 24,
-        39 => 60,
-        _ => 0,
-    }
-}
+// The most steps of a script.
+const STEPS: u8 = 24;
 
 // The buffers that an answer gives.
 fn buffers(call: u8) -> u8 {
     match call {
-        35 | 39 => 2,
+        35 => 2,
         36 => 1,
         _ => 0,
     }
 }
 
 // The number of steps at a position of the body; 0 where there are more than allowed.
-fn steps(call: u8, body: &[u8], at: usize) -> u8 {
+fn steps(body: &[u8], at: usize) -> u8 {
     let n = case::byte(body, at);
-    if n <= most(call) { n } else { 0 }
+    if n <= STEPS { n } else { 0 }
 }
 
-// A number that is allowed stands there, and the call is a script.
+// A number that is allowed stands there, and the call is one of the three.
 fn known(call: u8, body: &[u8], at: usize) -> bool {
-    (0 < most(call)) & (at < body.len()) & (case::byte(body, at) <= most(call))
+    (34 < call) & (call < 38) & (at < body.len()) & (case::byte(body, at) <= STEPS)
 }
 
 // The script whose number of steps stands at a position of the body.
 fn script(call: u8, body: &[u8], at: usize, whole: bool, one: &mut [u8], two: &mut [u8]) -> Said {
     let first = stream_values::begun(call, body, case::past(at, 1), whole & known(call, body, at));
-    let r = stream_play::play(first, call, steps(call, body, at), body, one, two);
+    let r = stream_play::play(first, call, steps(body, at), body, one, two);
     stream_values::told(r, call, r.at == body.len())
 }
 
@@ -44,7 +38,6 @@ fn head(call: u8) -> usize {
     match call {
         35 => 120,
         36 => 20,
-        39 => answer_hand::SETTINGS + 120,
         _ => answer_hand::SETTINGS,
     }
 }
@@ -54,7 +47,7 @@ pub fn answer(call: u8, body: &[u8], out: &mut [u8]) -> usize {
     let mut room = [0u8; case::BUFFER];
     let mut more = [0u8; case::BUFFER];
     let s = case::buffer_if(call != 37, body, head(call), &mut room, 12288);
-    let t = case::buffer_if((call == 35) | (call == 39), body, s.next, &mut more, 16384);
+    let t = case::buffer_if(call == 35, body, s.next, &mut more, 16384);
     let one = case::front_mut(&mut room, s.len);
     let two = case::front_mut(&mut more, t.len);
     let said = script(call, body, t.next, s.whole & t.whole, one, two);

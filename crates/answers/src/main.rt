@@ -7,7 +7,7 @@ fn answer_to(call: u8, body: &[u8], out: &mut [u8]) -> usize {
     match call {
         16 => answer_frame::answer(call, body, out),
         17 => answer_cut::answer(call, body, out),
-        35..=37 | 39 => answer_stream::answer(call, body, out),
+        35..=37 => answer_stream::answer(call, body, out),
         40 | 41 => answer_mdi::answer(call, body, out),
         42 | 45 => answer_mdi_write::answer(call, body, out),
         _ => answer_simple::answer(call, body, out),

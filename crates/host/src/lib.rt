@@ -4,18 +4,15 @@
 ghost use Rattle.std.specs.Prelude.{◌≡◌, length};
 ghost use Rattle.dispersal.specs.Dispersal.{number_for, output_for};
 ghost use Rattle.packet.specs.Calls.{check_for};
-ghost use Rattle.plans.specs.Plans.{plans_for, change_for};
-ghost use Rattle.planned.specs.Planned.{plan_load_for, plan_store_for, plan_frame_for, plan_frame_out};
+ghost use Rattle.hand.specs.Settings.{settings_for};
 ghost use Rattle.receiver.specs.Receiver.{buffer_for};
 ghost use Rattle.receiver.specs.Dropped.{report_for};
-ghost use Rattle.sender.specs.Rings.{fresh_rings};
+ghost use Rattle.sender.specs.Rings.{fresh_rings, ring_load_for, ring_store_for, ring_frame_for, ring_frame_out};
 ghost use Rattle.host.specs.Received.{unheard, received_by, received_for, said};
 
-use hand::Three;
-use planned::Framed;
-use plans::{Changed, Plans};
+use hand::Settings;
 use receiver::{Answer, Receiver};
-use sender::{Loaded, Sender};
+use sender::{Framed, Loaded, Sender};
 
 // What a packet brought: the number; whether a unit is complete, its id and length, all 0 where none is; the bytes of an open unit that were
 // dropped (02, E5); and the record after the call.
@@ -46,23 +43,10 @@ pub extern "C" fn keshgurvat_packet_check(p: usize, packet: &[u8]) -> u32
 }
 
 #[unsafe(no_mangle)]
-pub extern "C" fn keshgurvat_settings_check(settings: Plans) -> u32
-    ensures { result ≡ plans_for settings }
+pub extern "C" fn keshgurvat_settings_check(settings: Settings) -> u32
+    ensures { result ≡ settings_for settings }
 {
     settings.check()
-}
-
-#[unsafe(no_mangle)]
-pub extern "C" fn keshgurvat_change(
-    settings: Plans,
-    count: u32,
-    n: usize,
-    share: Three,
-    ceiling: Three,
-) -> Changed
-    ensures { result ≡ change_for settings count n share ceiling }
-{
-    settings.change(count, n, share, ceiling)
 }
 
 #[unsafe(no_mangle)]
@@ -75,29 +59,28 @@ pub extern "C" fn keshgurvat_sender_fresh() -> Sender
 #[unsafe(no_mangle)]
 pub extern "C" fn keshgurvat_load(
     state: Sender,
-    settings: Plans,
+    settings: Settings,
     store: &mut [u8],
     id: usize,
     unit: &[u8],
 ) -> Loaded
-    ensures answer { result ≡ plan_load_for settings state id unit.now store.old }
-    ensures memory { store.new ≡ plan_store_for settings state id unit.now store.old }
+    ensures answer { result ≡ ring_load_for settings state id unit.now store.old }
+    ensures memory { store.new ≡ ring_store_for settings state id unit.now store.old }
 {
-    planned::load(state, settings, store, id, unit)
+    state.load(settings, store, id, unit)
 }
 
 #[unsafe(no_mangle)]
 pub extern "C" fn keshgurvat_frame(
     state: Sender,
-    settings: Plans,
-    count: u32,
+    settings: Settings,
     store: &[u8],
     out: &mut [u8],
 ) -> Framed
-    ensures answer { result ≡ plan_frame_for settings count state store.now out.old }
-    ensures written { out.new ≡ plan_frame_out settings count state store.now out.old }
+    ensures answer { result ≡ ring_frame_for settings state store.now out.old }
+    ensures written { out.new ≡ ring_frame_out settings state store.now out.old }
 {
-    planned::frame(state, settings, count, store, out)
+    state.frame(settings, store, out)
 }
 
 #[unsafe(no_mangle)]

@@ -2,14 +2,12 @@
 use crate::fit;
 use hand::Three;
 use night_plan::SLOTS;
-use plans::Plans;
 use sender::Sender;
 
-// Sender, the record of settings as the last frame gave it back, and numbers, by value: the prover pays more for what is lent on and on.
+// Sender and numbers, by value: the prover pays more for what is lent on and on.
 #[derive(Drop)]
 pub(crate) struct Sent {
     pub(crate) s: Sender,
-    pub(crate) settings: Plans,
     pub(crate) book: [usize; SLOTS],
 }
 
@@ -32,12 +30,11 @@ fn load(n: Sent, id: usize, store: &mut [u8]) -> Sent {
     if !is_due(book, id) {
         return n;
     }
-    let settings = n.settings;
-    let done = fit::offer(book, n.s, settings, id, store);
+    let done = fit::offer(book, n.s, id, store);
     let s = done.next;
     let waiting = waiting(s, id);
-    let book = night_book::note(book, id, done.number, waiting, settings);
-    Sent { s, settings, book }
+    let book = night_book::note(book, id, done.number, waiting);
+    Sent { s, book }
 }
 
 // What is due in each queue, until a unit finds no room: no more than eight are ever unfinished, so that the ninth of a queue finds none.
@@ -51,27 +48,18 @@ fn load_all(n: Sent, store: &mut [u8]) -> Sent {
     next
 }
 
-// The frame that the book is at. The record of settings is the one that the library gives back: which set fills a frame is not worked out
-// here.
-fn write(n: Sent, store: &[u8], out: &mut [u8]) -> Sent {
-    let book = n.book;
-    let was = n.settings;
-    let done = planned::frame(n.s, was, fit::count(book[night_book::FRAME]), store, out);
-    let settings = done.settings;
-    let book = night_book::count(book, done.packets, done.filler);
-    let book = night_book::take_over(book, was, settings);
-    let s = done.next;
-    Sent { s, settings, book }
-}
-
 // What is due is loaded, and the frame written.
 pub(crate) fn send(n: Sent, store: &mut [u8], out: &mut [u8]) -> Sent {
     let s = n.s;
-    let settings = n.settings;
     let book = n.book;
     let book = night_book::begin(book);
-    let n = load_all(Sent { s, settings, book }, store);
-    write(n, store, out)
+    let n = load_all(Sent { s, book }, store);
+    let s = n.s;
+    let book = n.book;
+    let done = s.frame(night_plan::settings(book), store, out);
+    let book = night_book::count(book, done.packets, done.filler);
+    let s = done.next;
+    Sent { s, book }
 }
 
 // The units of each queue that are not wholly sent.
@@ -87,10 +75,8 @@ fn unfinished(s: Sender) -> Three {
 }
 
 // The end of a frame, with the units that are not wholly sent and the packets that wait now.
-pub(crate) fn end(n: Sent, book: [usize; SLOTS]) -> Sent {
-    let s = n.s;
-    let settings = n.settings;
+pub(crate) fn end(s: Sender, book: [usize; SLOTS]) -> Sent {
     let book = night_book::settle(book, unfinished(s));
     let book = night_book::end_frame(book, waiting(s, 0), waiting(s, 1), waiting(s, 2));
-    Sent { s, settings, book }
+    Sent { s, book }
 }

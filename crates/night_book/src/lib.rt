@@ -1,60 +1,58 @@
 // What is written down along the night, behind the numbers of the plan, and printed. A number a queue stands in three places, by id, one
 // with filler in four.
-mod promise;
 mod table;
 
 use hand::Three;
 use night_plan::{SLOTS, list};
-use plans::Plans;
 pub use table::{end, head, refuse};
 
 // the frame that is made, counted from 1
-pub const FRAME: usize = 17;
+pub const FRAME: usize = 15;
 
 // units loaded; the frame before which one was last refused; units delivered
-pub const LOADED: usize = 18;
+pub const LOADED: usize = 16;
 
-pub const REFUSED: usize = 21;
+pub const REFUSED: usize = 19;
 
-pub const DELIVERED: usize = 24;
+pub const DELIVERED: usize = 22;
 
 // the first unit that may still come: those before it came or are lost
-pub const NEXT: usize = 27;
+pub const NEXT: usize = 25;
 
 // refusals for want of room, and behind it units that came back changed
-pub const NO_ROOM: usize = 30;
+pub const NO_ROOM: usize = 28;
 
-pub const CHANGED: usize = 31;
+pub const CHANGED: usize = 29;
 
 // packets of the stream so far, filler among them
-pub const PASSED: usize = 32;
+pub const PASSED: usize = 30;
 
 // what a line shows, in its order: packets of each queue and filler since the last line; packets that wait; bytes dropped since the last
 // line; the bar of the last frame
-pub const SUM: usize = 33;
+pub const SUM: usize = 31;
 
-pub const WAITING: usize = 37;
+pub const WAITING: usize = 35;
 
-pub const DROPPED: usize = 40;
+pub const DROPPED: usize = 38;
 
-pub const BAR: usize = 41;
+pub const BAR: usize = 39;
 
 // bytes dropped in all of the night
-pub const DROPPED_ALL: usize = 45;
+pub const DROPPED_ALL: usize = 43;
 
-// the frame at which the second set of settings took over; 0: it did not
-pub const TAKEN: usize = 46;
+// of the news pages: those that came late, the longest wait and its promise
+pub const LATE: usize = 44;
 
-// of the news pages loaded before that frame, kind 0: those that came, those of them that came late, the longest wait and its promise;
-// behind these four the same of kind 1, those loaded from that frame on. What is loaded just before a frame is made counts as loaded in it.
-pub const PAGES: usize = 47;
+pub const LONGEST: usize = 45;
+
+pub const PROMISE: usize = 46;
 
 // by the page's number modulo 8: the frame before which it was loaded, and the frames promised. Page k + 8 is loaded only when page k is
 // wholly sent, since at most eight are unfinished; and a page comes in the frame in which it is wholly sent, or never. So losses make no
 // page late, and its two numbers still stand here when it comes.
-pub const SINCE: usize = 55;
+pub const SINCE: usize = 47;
 
-pub const BOUND: usize = 63;
+pub const BOUND: usize = 55;
 
 // Packets of a queue, or filler, in a frame: counted, and as so many characters of the bar.
 fn count_one(book: [usize; SLOTS], id: usize, n: usize) -> [usize; SLOTS] {
@@ -99,38 +97,17 @@ pub fn end_frame(book: [usize; SLOTS], a: usize, b: usize, c: usize) -> [usize; 
     next
 }
 
-// The record of settings that a frame was made by, and the one that it gave back: where a set waited and none waits any more, it took over
-// at this frame, and a line says so.
-pub fn take_over(book: [usize; SLOTS], was: Plans, next: Plans) -> [usize; SLOTS] {
-    let before = was.second;
-    let after = next.second;
-    if !before.waits | after.waits {
-        return book;
-    }
-    let mut b = book;
-    b[TAKEN] = b[FRAME];
-    table::new_share(b, promise::share(next), promise::share(was));
-    b
-}
-
-// Page k was loaded, and is promised to come within so many frames; 0: nothing is promised.
-fn open_page(book: [usize; SLOTS], k: usize, bound: usize) -> [usize; SLOTS] {
+// Page k was loaded: so many packets wait now, its own among them, and with a share of s it is wholly sent within k/s frames, rounded up.
+fn open_page(book: [usize; SLOTS], k: usize, waiting: usize) -> [usize; SLOTS] {
     let mut b = book;
     let i = k % 8;
     b[SINCE + i] = b[FRAME];
-    b[BOUND + i] = bound;
+    b[BOUND + i] = list::over(waiting, b[night_plan::SHARE]);
     b
 }
 
-// The number that the next unit of a queue got, by this record of settings, and the packets that wait in the queue now, its own among them:
-// the unit is loaded, or there was no room.
-pub fn note(
-    book: [usize; SLOTS],
-    id: usize,
-    number: u32,
-    waiting: usize,
-    settings: Plans,
-) -> [usize; SLOTS] {
+// The number that the next unit of a queue got, and the packets that wait in the queue now: the unit is loaded, or there was no room.
+pub fn note(book: [usize; SLOTS], id: usize, number: u32, waiting: usize) -> [usize; SLOTS] {
     let mut b = book;
     let i = id % 3;
     if number != 0 {
@@ -141,40 +118,27 @@ pub fn note(
     let k = b[LOADED + i];
     b[LOADED + i] = list::plus(k, 1);
     if id == night_plan::NEWS {
-        let bound = promise::bound(settings, b[FRAME], waiting);
-        return open_page(b, k, bound);
+        return open_page(b, k, waiting);
     }
     b
 }
 
-// The kind of a page, by the frame in which it was loaded.
-fn kind(since: usize, taken: usize) -> usize {
-    if (taken == 0) | (since < taken) { 0 } else { 1 }
-}
-
-// A page more of a kind, with its wait and its promise. Where nothing is promised none is late.
-fn count_page(book: [usize; SLOTS], kind: usize, wait: usize, bound: usize) -> [usize; SLOTS] {
-    let mut b = book;
-    let i = PAGES + kind % 2 * 4;
-    b[i] = list::plus(b[i], 1);
-    if (0 < bound) & (bound < wait) {
-        b[i + 1] = list::plus(b[i + 1], 1);
-    }
-    if b[i + 2] < wait {
-        b[i + 2] = wait;
-        b[i + 3] = bound;
-    }
-    b
-}
-
-// Page k is delivered: the frames from its loading on count, both among them.
+// Page k is delivered: the frames from its loading on count, both among them. A share of 0 promises nothing.
 fn close_page(book: [usize; SLOTS], k: usize) -> [usize; SLOTS] {
+    let mut b = book;
     let i = k % 8;
-    let bound = book[BOUND + i];
-    let since = book[SINCE + i];
-    let wait = std::num::wrapping_sub_usize(list::plus(book[FRAME], 1), since);
-    table::page(book, list::plus(k, 1), wait, bound);
-    count_page(book, kind(since, book[TAKEN]), wait, bound)
+    let bound = b[BOUND + i];
+    let since = b[SINCE + i];
+    let wait = std::num::wrapping_sub_usize(list::plus(b[FRAME], 1), since);
+    table::page(b, list::plus(k, 1), wait, bound);
+    if (0 < bound) & (bound < wait) {
+        b[LATE] = list::plus(b[LATE], 1);
+    }
+    if b[LONGEST] < wait {
+        b[LONGEST] = wait;
+        b[PROMISE] = bound;
+    }
+    b
 }
 
 // Which unit of a queue these bytes are, of those that may still come; where they are none of them, as many as are loaded. Only map files

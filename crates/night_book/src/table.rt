@@ -55,17 +55,7 @@ pub(crate) fn start(book: [usize; SLOTS]) {
     }
 }
 
-// The second set took over: what queue 0, the news pages, is owed now and was owed before.
-pub(crate) fn new_share(book: [usize; SLOTS], now: usize, before: usize) {
-    stamp(book);
-    text::say(
-        b"new shares: queue 0 is owed \x01 packet\x00 of a frame, was \x01\n",
-        &[now, now, before],
-        0,
-    );
-}
-
-// How long a page waited, and how long it may: a share of 0, now or from the second set on, may promise nothing.
+// How long a page waited, and how long it may: a share of 0 promises nothing.
 fn wait(n: usize, bound: usize) {
     if bound == 0 {
         text::say(b"\x01 frame\x00, nothing promised (share 0)\n", &[n, n], 0);
@@ -108,9 +98,8 @@ pub(crate) fn line(book: [usize; SLOTS]) {
     );
 }
 
-// Why a night cannot be run: the number that the library gives its settings, or its units; 0 says nothing. For the second set of settings
-// the frame is named at which it would take over, else 0.
-pub fn refuse(number: usize, at: usize) {
+// Why a night cannot be run: the number that the sender gives its settings or its units. 0 says nothing.
+pub fn refuse(number: usize) {
     if number == 13 {
         text::write(
             b"night: the settings are refused (13). Their limits: p from 1 to 255; n from 1,
@@ -118,32 +107,12 @@ with n(p+3) at most 8190; each share at most its ceiling; each ceiling from 1
 to n; the three shares together at most n.
 ",
         );
-        if at != 0 {
-            text::say(
-                b"It is the set from frame \x01 on, with more0 for share0, that breaks them.\n",
-                &[at],
-                0,
-            );
-        }
         return;
     }
     if number != 0 {
         text::say(
             b"night: a unit is refused (\x01). It has from 1 to 4096 bytes: news, map, station.\n",
             &[number],
-            0,
-        );
-    }
-}
-
-// The second set, where there is one.
-fn second(book: [usize; SLOTS]) {
-    let at = book[night_plan::AT];
-    let more = book[night_plan::MORE];
-    if at != 0 {
-        text::say(
-            b"From frame \x01 on queue 0 is owed \x01 packet\x00 of a frame, before that \x01.\n",
-            &[at, more, more, book[night_plan::SHARE]],
             0,
         );
     }
@@ -158,7 +127,6 @@ the \x01 map files starts at two o'clock, and so it starts twice.
         &book,
         night_plan::FILES,
     );
-    second(book);
     let g = grain(book[night_plan::N]);
     if 1 < g {
         text::say(
@@ -205,61 +173,15 @@ bytes dropped by the receiver: \x01
     );
 }
 
-// Of some pages, behind their number: how many came late, the longest wait and its promise.
-fn waits(late: usize, longest: usize, bound: usize) {
-    text::say(b", \x01 late, longest wait ", &[late], 0);
-    wait(longest, bound);
-}
-
-// Some pages, behind the words that say which.
-fn some_pages(n: usize, late: usize, longest: usize, bound: usize) {
-    if n == 0 {
-        text::write(b"none\n");
-        return;
-    }
-    text::say(b"\x01", &[n], 0);
-    waits(late, longest, bound);
-}
-
-// The line of the news pages; where the second set took over, one for those loaded before and one for those loaded since.
+// The line of the news pages.
 fn pages(book: [usize; SLOTS]) {
     if book[crate::DELIVERED] == 0 {
         text::write(b"news pages: none delivered\n");
         return;
     }
-    text::say(b"news pages: \x01 delivered", &book, crate::DELIVERED);
-    let n = book[crate::PAGES];
-    let late = book[crate::PAGES + 1];
-    let longest = book[crate::PAGES + 2];
-    let bound = book[crate::PAGES + 3];
-    if book[crate::TAKEN] == 0 {
-        waits(late, longest, bound);
-        return;
-    }
-    text::say(
-        b", of which\nloaded before frame \x01: ",
-        &book,
-        crate::TAKEN,
-    );
-    some_pages(n, late, longest, bound);
-    text::say(b"loaded from frame \x01 on: ", &book, crate::TAKEN);
-    some_pages(
-        book[crate::PAGES + 4],
-        book[crate::PAGES + 5],
-        book[crate::PAGES + 6],
-        book[crate::PAGES + 7],
-    );
-}
-
-// The second set, where there is one that did not take over.
-fn still_waiting(book: [usize; SLOTS]) {
-    if (book[night_plan::AT] != 0) & (book[crate::TAKEN] == 0) {
-        text::say(
-            b"new shares: still waiting for frame \x01\n",
-            &book,
-            night_plan::AT,
-        );
-    }
+    text::say(b"news pages: \x01 delivered, ", &book, crate::DELIVERED);
+    text::say(b"\x01 late, longest wait ", &book, crate::LATE);
+    wait(book[crate::LONGEST], book[crate::PROMISE]);
 }
 
 pub fn end(book: [usize; SLOTS]) {
@@ -281,6 +203,5 @@ units that came back changed: \x01
         crate::NO_ROOM,
     );
     losses(book);
-    still_waiting(book);
     pages(book);
 }

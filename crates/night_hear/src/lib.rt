@@ -53,8 +53,7 @@ fn pass(n: Heard, packet: &[u8], buffer: &mut [u8]) -> Heard {
     hear(Heard { r, book }, packet, buffer)
 }
 
-// The packets of a frame, in order. A frame has as many as the set of settings that filled it says; the two sets of a night have the same
-// N, that of the plan.
+// The packets of a frame, in order.
 pub fn hear_all(n: Heard, frame: &[u8], buffer: &mut [u8]) -> Heard {
     let book = n.book;
     let size = list::plus(book[night_plan::P], 3);

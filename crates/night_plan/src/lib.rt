@@ -31,16 +31,10 @@ pub const FRAMES: usize = 13;
 // packets LOSE, 2 LOSE, 3 LOSE and so on of the stream, counted with filler, do not reach the receiver; 0: all do
 pub const LOSE: usize = 14;
 
-// the share of queue 0 in the second set of settings, in which all else is as in the first, and the frame at which it takes over; 0: there
-// is no second set
-pub const MORE: usize = 15;
-
-pub const AT: usize = 16;
-
-pub const NUMBERS: usize = 17;
+pub const NUMBERS: usize = 15;
 
 // all numbers of the night
-pub const SLOTS: usize = 71;
+pub const SLOTS: usize = 63;
 
 // The queues, by id.
 pub const NEWS: usize = 0;
@@ -49,7 +43,6 @@ pub const MAPS: usize = 1;
 
 pub const STATIONS: usize = 2;
 
-// The settings of the first set.
 pub fn settings(v: [usize; SLOTS]) -> Settings {
     let share = Three {
         a: v[SHARE],

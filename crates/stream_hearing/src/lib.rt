@@ -50,13 +50,11 @@ fn tell(r: Run, t: Told, s: Taken) -> Run {
     let said = stream_values::begin_step(r.said, h.number, s.whole);
     let said = saying::three(said, h.given as u64, h.id as u64, h.length as u64);
     let said = saying::value(said, t.dropped as u64);
-    let settings = r.settings;
     let sender = r.sender;
     let receiver = t.next;
     Run {
         at: s.next,
         said,
-        settings,
         sender,
         receiver,
     }
@@ -150,7 +148,7 @@ fn summed(r: Run, a: Acted, g: Gathered, all: &[u8]) -> Run {
     stream_sending::after(a, said, g.receiver)
 }
 
-// The packets of a frame to the receiver, by the p of the settings at the front of the body, which stays.
+// The packets of a frame to the receiver, by the p of the settings at the front of the body.
 fn tell_all(r: Run, a: Acted, body: &[u8], frame: &[u8], buffer: &mut [u8]) -> Run {
     let mut all = [0u8; UNITS];
     let receiver = r.receiver;
@@ -176,15 +174,15 @@ pub fn hear(r: Run, body: &[u8], buffer: &mut [u8]) -> Run {
     tell(r, t, s)
 }
 
-// A step of call 37 has the settings that the last one left, and the packets of its frame go to the receiver.
+// A step of call 37 has the settings at the front of the body, and the packets of its frame go to the receiver.
 pub fn pass(r: Run, body: &[u8], store: &mut [u8], buffer: &mut [u8]) -> Run {
     let mut frame = [0u8; FRAME];
     let a = stream_sending::act(
         r.sender,
-        r.settings,
-        case::byte(body, r.at),
-        body,
+        r.at,
+        0,
         case::past(r.at, 1),
+        body,
         store,
         &mut frame,
     );

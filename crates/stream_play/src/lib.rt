@@ -1,11 +1,10 @@
-// The steps of a script of calls 35 to 37 and 39 (docs/CASES.md), one behind the other, each handed what the last one left.
+// The steps of a script of calls 35 to 37 (docs/CASES.md), one behind the other, each handed what the last one left.
 use stream_values::Run;
 
 fn step(r: Run, call: u8, body: &[u8], one: &mut [u8], two: &mut [u8]) -> Run {
     match call {
         35 => stream_sending::send(r, body, one, two),
         36 => stream_hearing::hear(r, body, one),
-        39 => stream_sending::plan(r, body, one, two),
         _ => stream_hearing::pass(r, body, one, two),
     }
 }

@@ -1,7 +1,6 @@
-// How far a script of calls 35 to 37 and 39 (docs/CASES.md) is run; the states of sender and receiver, as a body has them and as an answer
-// gives them.
+// How far a script of calls 35 to 37 (docs/CASES.md) is run; the states of sender and receiver, as a body has them and as an answer gives
+// them.
 use cases::case;
-use plans::Plans;
 use queue::Queue;
 use receiver::{Link, Receiver};
 use saying::Said;
@@ -36,27 +35,27 @@ fn index_at(body: &[u8], at: usize) -> [u8; 4] {
     [a, b, c, d]
 }
 
-// A number of 16 bits of each queue, which stands so many bytes from where the queue begins. The first begins at a position of the body.
-fn halves(body: &[u8], at: usize, more: usize) -> [u16; 3] {
-    let a = half(body, at, more);
-    let b = half(body, case::past(at, 36), more);
-    let c = half(body, case::past(at, 72), more);
+// A number of 16 bits of each queue, which stands so many bytes from where the queue begins.
+fn halves(body: &[u8], more: usize) -> [u16; 3] {
+    let a = half(body, 0, more);
+    let b = half(body, 36, more);
+    let c = half(body, 72, more);
     [a, b, c]
 }
 
-// The sender at a position of a body.
-fn sender_at(body: &[u8], at: usize) -> Sender {
-    let a = queue_at(body, at);
-    let b = queue_at(body, case::past(at, 36));
-    let c = queue_at(body, case::past(at, 72));
+// The sender at the front of a body.
+fn sender_in(body: &[u8]) -> Sender {
+    let a = queue_at(body, 0);
+    let b = queue_at(body, 36);
+    let c = queue_at(body, 72);
     let q = [a, b, c];
-    let index = index_at(body, case::past(at, 116));
+    let index = index_at(body, 116);
     Sender {
         q,
-        turn: fields::read64(body, case::past(at, 108)) as usize,
+        turn: fields::read64(body, 108) as usize,
         index,
-        waiting: halves(body, at, 16),
-        start: halves(body, at, 18),
+        waiting: halves(body, 16),
+        start: halves(body, 18),
     }
 }
 
@@ -135,31 +134,23 @@ fn tell_receiver(said: Said, r: Receiver) -> Said {
     tell_link(tell_link(said, c), d)
 }
 
-// Where the next step stands in the body, what was said, the settings of calls 37 and 39, the two states.
+// Where the next step stands in the body, what was said, the two states.
 #[derive(Drop)]
 pub struct Run {
     pub at: usize,
     pub said: Said,
-    pub settings: Plans,
     pub sender: Sender,
     pub receiver: Receiver,
 }
 
-// The sender that a script begins with: fresh where the body has none.
-fn first_sender(call: u8, body: &[u8]) -> Sender {
-    match call {
-        35 => sender_at(body, 0),
-        39 => sender_at(body, answer_hand::SETTINGS),
-        _ => Sender::fresh(),
-    }
-}
-
-// The run before its first step, which stands at a position of the body. Where a script has settings they are the first thing in it; where
-// it has none nobody looks at what is read here.
+// The run before its first step, which stands at a position of the body. It is fresh where the body has no state.
 pub fn begun(call: u8, body: &[u8], at: usize, whole: bool) -> Run {
     let said = saying::only_if(saying::begin(0, 0), whole);
-    let settings = answer_hand::settings_at(body, 0);
-    let sender = first_sender(call, body);
+    let sender = if call == 35 {
+        sender_in(body)
+    } else {
+        Sender::fresh()
+    };
     let receiver = if call == 36 {
         receiver_in(body)
     } else {
@@ -168,19 +159,17 @@ pub fn begun(call: u8, body: &[u8], at: usize, whole: bool) -> Run {
     Run {
         at,
         said,
-        settings,
         sender,
         receiver,
     }
 }
 
-// What was said of the steps, and the settings and the state after the last.
+// What was said of the steps, and the state after the last.
 pub fn told(r: Run, call: u8, whole: bool) -> Said {
     let said = saying::only_if(r.said, whole);
     match call {
         35 => tell_sender(said, r.sender),
         36 => tell_receiver(said, r.receiver),
-        39 => tell_sender(answer_hand::tell_settings(said, r.settings), r.sender),
         _ => said,
     }
 }

@@ -1,10 +1,8 @@
-//! The calls (docs/CASES.md, "The calls"), one file each or one for those that differ little. Three files hold
-//! no call but what the cases of several are made of: descriptions, `described` as records and `coded` in bytes,
-//! and settings, `records`.
+//! The calls (docs/CASES.md, "The calls"), one file each or one for those that differ little. Two files hold
+//! no call but descriptions for the cases of several: `described` as records, `coded` in bytes.
 //!
 //! A new call is a new file here, its `mod` line, and one line in `CALLS`.
 
-mod change;
 mod clock;
 mod coded;
 mod crc;
@@ -23,10 +21,8 @@ mod number;
 mod packet;
 mod receiver;
 mod recording;
-mod records;
 mod script;
 mod settings;
-mod settings_script;
 mod through;
 
 use crate::answer::Answer;
@@ -90,8 +86,6 @@ pub const CALLS: &[Call] = &[
     follows::FOLLOWS,
     receiver::SCRIPT,
     through::SCRIPT,
-    change::CHANGE,
-    settings_script::SCRIPT,
 ];
 
 /// The call of an entry; none where the file or the code is broken.
@@ -145,7 +139,7 @@ mod tests {
     }
 
     /// The numbers that can stand in an answer of each call.
-    const NUMBERS: [(u8, &[u8]); 38] = [
+    const NUMBERS: [(u8, &[u8]); 36] = [
         (1, &[0]),
         (2, &[0]),
         (3, &[0, 1]),
@@ -182,8 +176,6 @@ mod tests {
         (45, &[0, 6]),
         (36, &[0, 1, 13, 16, 17]),
         (37, &[0, 1, 13, 14, 15]),
-        (38, &[0, 13]),
-        (39, &[0, 1, 13, 14, 15, 17]),
     ];
 
     /// Those and no others, among the fixed cases as well as among random ones.
@@ -208,18 +200,16 @@ mod tests {
         }
     }
 
-    /// Every run adds up (document 02, E1, E9, E10 and E11), and 1,000 random cases of a call have at least so many
-    /// packets in the balance, accepted calls at a sender, calls in both layouts of its store, frames that two queues
-    /// share their spares in, runs of two such frames or more, calls after which the settings were looked at,
-    /// takeovers, and units whose shares added up.
+    /// Every run adds up (document 02, E1, E9 and E11), and 1,000 random cases of a call have at least so many packets
+    /// in the balance, accepted calls at a sender, calls in both layouts of its store, frames that two queues share
+    /// their spares in, and runs of two such frames or more.
     #[test]
     fn every_run_adds_up() {
         for (code, least) in [
-            (34, [0, 0, 0, 300, 0, 0, 0, 0]),
-            (35, [0, 6_000, 8_000, 5_000, 800, 0, 0, 0]),
-            (36, [8_000, 0, 0, 0, 0, 0, 0, 0]),
-            (37, [80_000, 10_000, 12_000, 4_000, 400, 12_000, 250, 1_000]),
-            (39, [0, 8_000, 10_000, 6_000, 800, 12_000, 800, 800]),
+            (34, [0, 0, 0, 300, 0]),
+            (35, [0, 6_000, 8_000, 5_000, 800]),
+            (36, [8_000, 0, 0, 0, 0]),
+            (37, [80_000, 10_000, 12_000, 4_000, 400]),
         ] {
             let call = CALLS.iter().find(|call| call.code == code).unwrap();
             let mut random = Random::new(9);
@@ -238,14 +228,9 @@ mod tests {
                 layouts,
                 frames,
                 stretches,
-                records,
-                takeovers,
-                demands,
                 ..
             } = added[1];
-            let found = [
-                packets, counts, layouts, frames, stretches, records, takeovers, demands,
-            ];
+            let found = [packets, counts, layouts, frames, stretches];
             let mut both = found.iter().zip(&least);
             assert!(both.all(|(found, least)| found >= least), "{found:?}");
         }
@@ -280,12 +265,7 @@ mod tests {
                 assert!(arguments(&entry).is_some());
                 if let Some(answer) = answer(&entry) {
                     // The values of a script are as many as its steps ask for, and have no names.
-                    let scripts = [
-                        script::SCRIPT,
-                        receiver::SCRIPT,
-                        through::SCRIPT,
-                        settings_script::SCRIPT,
-                    ];
+                    let scripts = [script::SCRIPT, receiver::SCRIPT, through::SCRIPT];
                     if scripts.iter().all(|script| script.code != call.code) {
                         assert_eq!(answer.values.len(), call.values.len());
                     }

@@ -1,14 +1,12 @@
 //! Call 35: a sender that is handed units and asked for frames, step by step (document 01, "Packets, queues
-//! and receiver"; document 02, E1, E9 and E10).
+//! and receiver"; document 02, E1 and E9).
 
 mod counts;
 mod rings;
-pub mod senders;
-mod sets;
+mod senders;
 
-use self::senders::{state, BROKEN};
-use super::records::{self, Recorded};
-use super::settings;
+use self::senders::{any, state, BROKEN};
+use super::settings::{self, Set};
 use super::Call;
 use crate::answer::Answer;
 use crate::buffer::Buffer;
@@ -19,11 +17,9 @@ use crate::generate;
 use crate::packet::FRAMING;
 use crate::random::Random;
 use crate::reader::Reader;
-use crate::record::Record;
 use crate::refusal::{Refusal, LONGEST_INPUT};
 use crate::runs::Sending;
-use crate::sender::{HandOut, Sender, Settings, STORE_BYTES};
-use std::ops::Range;
+use crate::sender::{HandOut, Sender, Settings, QUEUE_BYTES, STORE_BYTES};
 
 /// Its values have no names: each step has eight, and the sender 41.
 pub const SCRIPT: Call = Call {
@@ -55,12 +51,10 @@ struct Script {
 #[derive(Default, Clone)]
 struct Step {
     kind: u8,
-    record: Record,
+    settings: Settings,
     /// Of a load alone.
     id: u64,
     unit: Buffer,
-    /// Of a frame alone.
-    count: u32,
 }
 
 impl Arguments for Script {
@@ -73,14 +67,10 @@ impl Arguments for Script {
         self.steps.resize(usize::from(count), Step::default());
         for step in &mut self.steps {
             fields.byte("step of kind", &mut step.kind)?;
-            fields.record(&mut step.record)?;
-            match step.kind {
-                LOAD => {
-                    fields.number("id", &mut step.id)?;
-                    fields.buffer("unit", &mut step.unit)?;
-                }
-                FRAME => fields.word("frame count", &mut step.count)?,
-                _ => {}
+            fields.settings(&mut step.settings)?;
+            if step.kind == LOAD {
+                fields.number("id", &mut step.id)?;
+                fields.buffer("unit", &mut step.unit)?;
             }
         }
         Some(())
@@ -99,11 +89,9 @@ fn answer(body: &mut Reader) -> Option<Answer> {
     for step in &script.steps {
         let done = match step.kind {
             LOAD => run
-                .load_by(&step.record, step.id, &step.unit.bytes())
+                .load(&step.settings, step.id, &step.unit.bytes())
                 .map(|()| HandOut::default()),
-            _ => run
-                .frame_by(&step.record, step.count, &mut output)
-                .map(|(out, _)| out),
+            _ => run.frame(&step.settings, &mut output),
         };
         last = *done.as_ref().err().unwrap_or(&Refusal::number(0));
         let out = done.unwrap_or_default();
@@ -113,42 +101,48 @@ fn answer(body: &mut Reader) -> Option<Answer> {
         values.push(u64::from(crc16(&output)));
         values.push(output.iter().map(|byte| u64::from(*byte)).sum());
     }
-    values.extend(run.sender.values());
+    values.extend(values_of(&run.sender));
     let mut answer = Answer::refused(last);
     answer.values = values;
     answer.added = run.added();
     Some(answer.buffer(&run.store).buffer(&output))
 }
 
-/// That of the last step, which decides the number of the answer.
-impl Recorded for Script {
-    fn record(&mut self) -> &mut Record {
-        &mut self.last().record
+fn values_of(sender: &Sender) -> Vec<u64> {
+    let mut values = Vec::new();
+    for queue in &sender.queues {
+        values.extend([queue.units, queue.sent]);
+        values.extend([queue.waiting, queue.start].map(u64::from));
+        values.extend(queue.left.map(u64::from));
+    }
+    values.push(sender.turn);
+    values.extend(sender.indexes.map(u64::from));
+    values
+}
+
+/// The settings of the last step, which decides the number of the answer.
+impl Set for Script {
+    fn settings(&mut self) -> &mut Settings {
+        &mut self.last().settings
     }
 }
 
 impl Script {
     /// From the fresh state, with the output that the longest of its frames needs or some more.
     fn new(random: &mut Random, steps: Vec<Step>) -> Script {
-        let mut script = Script {
+        let needed = steps.iter().map(Step::needed).max().unwrap_or(0);
+        let room = generate::room(random, needed);
+        Script {
             sender: Sender::default(),
             store: store(random, STORE_BYTES),
-            output: Buffer::default(),
+            output: generate::compact(random, room),
             steps,
-        };
-        let room = generate::room(random, script.needed());
-        script.output = generate::compact(random, room);
-        script
+        }
     }
 
     fn from(mut self, sender: Sender) -> Script {
         self.sender = sender;
         self
-    }
-
-    /// Bytes of the longest frame.
-    fn needed(&self) -> usize {
-        self.steps.iter().map(Step::needed).max().unwrap_or(0)
     }
 
     /// The last step; every script that is spoiled has one.
@@ -159,15 +153,15 @@ impl Script {
 
     /// That of the first step; every p is 1 to 255 until settings are spoiled.
     fn p(&self) -> u64 {
-        self.steps.first().map_or(1, |step| step.record.first.p)
+        self.steps.first().map_or(1, |step| step.settings.p)
     }
 }
 
 impl Step {
     /// Bytes of the frame; 0 for a load and for settings that are none.
     fn needed(&self) -> usize {
-        if self.kind == FRAME && self.record.check().is_ok() {
-            let Settings { p, packets, .. } = self.record.at(self.count).first;
+        if self.kind == FRAME && self.settings.check().is_ok() {
+            let Settings { p, packets, .. } = self.settings;
             return packets as usize * (p as usize + FRAMING);
         }
         0
@@ -180,21 +174,20 @@ fn store(random: &mut Random, length: usize) -> Buffer {
     Buffer::Seeded { length, seed }
 }
 
-fn frame(record: impl Into<Record>) -> Step {
+fn frame(settings: Settings) -> Step {
     Step {
         kind: FRAME,
-        record: record.into(),
+        settings,
         ..Step::default()
     }
 }
 
-fn load(random: &mut Random, record: impl Into<Record>, id: u64, length: usize) -> Step {
+fn load(random: &mut Random, settings: Settings, id: u64, length: usize) -> Step {
     Step {
         kind: LOAD,
-        record: record.into(),
+        settings,
         id,
         unit: generate::compact(random, length),
-        ..Step::default()
     }
 }
 
@@ -232,23 +225,33 @@ fn other_store(script: &mut Script, random: &mut Random) {
 }
 
 fn other_settings(script: &mut Script, random: &mut Random) {
-    let wrong = records::faults::<Script>();
+    let wrong = settings::faults::<Script>();
     wrong[random.below(wrong.len() as u64) as usize](script, random);
 }
 
+/// Sent bytes that are no multiple of p; where p is 1, too many of them. The counts are right.
 fn no_multiple(script: &mut Script, random: &mut Random) {
     let p = script.p();
-    senders::no_multiple(&mut script.sender, random, p);
+    let queue = any(&mut script.sender, random);
+    senders::one_left(queue, 0, 3);
+    queue.sent = match p {
+        2..=1_000 => p * random.below(3) + 1 + random.below(p - 1),
+        _ => QUEUE_BYTES as u64,
+    };
+    senders::count(&mut script.sender, p);
 }
 
-fn spoil(script: &mut Script, random: &mut Random, kinds: Range<usize>) {
-    let p = script.p();
-    senders::spoil(&mut script.sender, random, p, kinds);
+/// One of those kinds of 17, with counts that are right: it alone decides.
+fn spoil(script: &mut Script, random: &mut Random, kinds: std::ops::Range<usize>) {
+    let kinds = &BROKEN[kinds];
+    kinds[random.below(kinds.len() as u64) as usize](&mut script.sender, random);
+    senders::count(&mut script.sender, script.steps[0].settings.p);
 }
 
 /// An output that is too short for the longest frame, mostly by one.
 fn shorter(random: &mut Random, script: &Script) -> Buffer {
-    generate::too_short(random, script.needed())
+    let needed = script.steps.iter().map(Step::needed).max().unwrap_or(0);
+    generate::too_short(random, needed)
 }
 
 /// The limits of a queue and of a unit, met step by step.
@@ -425,11 +428,10 @@ fn fixed(random: &mut Random) -> Vec<Vec<u8>> {
             }
         }
     }
-    // Changes of all but p, wrong counts, changes of p, rings, and second sets.
+    // Changes of all but p, wrong counts, changes of p, and rings.
     list.extend((0..6).map(|_| busy(random)));
     list.extend(counts::fixed(random));
     list.extend(rings::fixed(random));
-    list.extend(sets::fixed(random));
     // The order of the refusals.
     for end in ends {
         let good = Script::new(random, vec![end]);
@@ -462,12 +464,8 @@ fn random_script(random: &mut Random) -> Vec<u8> {
     };
     if random.one_in(3) {
         // Now and then for the p of the last step, which may be another.
-        let last = script.record().first.p;
-        let p = random.pick(&[script.p(), script.p(), script.p(), last]);
+        let p = random.pick(&[script.p(), script.p(), script.p(), script.last().settings.p]);
         script.sender = state(random, p);
-    }
-    if random.one_in(3) {
-        sets::put_in(random, &mut script);
     }
     match random.below(12) {
         0 | 1 => counts::miscounted(random, script).body(),

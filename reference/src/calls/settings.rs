@@ -1,7 +1,6 @@
 //! Calls 33 and 34: settings checked, and a frame's packets handed out (document 01, "Packets, queues and
-//! receiver"; document 02, E10).
+//! receiver").
 
-use super::records::{self, Recorded};
 use super::Call;
 use crate::answer::Answer;
 use crate::faults::{self, Fault};
@@ -9,7 +8,6 @@ use crate::fields::{bodies, lines, Arguments, Fields};
 use crate::packet::{FRAMING, LARGEST_P};
 use crate::random::Random;
 use crate::reader::Reader;
-use crate::record::{Record, Set};
 use crate::runs::Added;
 use crate::sender::{self, Settings, LONGEST_FRAME, QUEUES};
 use crate::spares::{Frame, Spares};
@@ -18,7 +16,7 @@ pub const CHECK: Call = Call {
     code: 33,
     name: "settings check",
     fixed: fixed_checks,
-    random: |random| faults::some(Check(records::good(random)), &records::faults(), random).body(),
+    random: |random| faults::some(Check(good(random)), &faults(), random).body(),
     answer: check,
     arguments: lines::<Check>,
     values: &[],
@@ -43,39 +41,41 @@ pub const HAND_OUT: Call = Call {
     buffers: &[],
 };
 
+/// Arguments with settings.
+pub trait Set {
+    fn settings(&mut self) -> &mut Settings;
+}
+
 #[derive(Default, Clone)]
-struct Check(Record);
+struct Check(Settings);
 
 impl Arguments for Check {
     fn each(&mut self, fields: &mut impl Fields) -> Option<()> {
-        fields.record(&mut self.0)
+        fields.settings(&mut self.0)
     }
 }
 
-impl Recorded for Check {
-    fn record(&mut self) -> &mut Record {
+impl Set for Check {
+    fn settings(&mut self) -> &mut Settings {
         &mut self.0
     }
 }
 
 fn check(body: &mut Reader) -> Option<Answer> {
-    let Check(record) = Check::read(body)?;
-    Some(Answer::of(record.check().map(|()| [])))
+    let Check(settings) = Check::read(body)?;
+    Some(Answer::of(settings.check().map(|()| [])))
 }
 
 #[derive(Default, Clone)]
 struct Waiting {
-    record: Record,
-    /// The count of the frame.
-    count: u32,
+    settings: Settings,
     waiting: [u64; QUEUES],
     turn: u64,
 }
 
 impl Arguments for Waiting {
     fn each(&mut self, fields: &mut impl Fields) -> Option<()> {
-        fields.record(&mut self.record)?;
-        fields.word("frame count", &mut self.count)?;
+        fields.settings(&mut self.settings)?;
         for (id, waiting) in self.waiting.iter_mut().enumerate() {
             fields.number(&format!("waiting in queue {id}"), waiting)?;
         }
@@ -83,27 +83,24 @@ impl Arguments for Waiting {
     }
 }
 
-impl Recorded for Waiting {
-    fn record(&mut self) -> &mut Record {
-        &mut self.record
+impl Set for Waiting {
+    fn settings(&mut self) -> &mut Settings {
+        &mut self.settings
     }
 }
 
 fn hand_out(body: &mut Reader) -> Option<Answer> {
     let Waiting {
-        record,
-        count,
+        settings,
         waiting,
         turn,
     } = Waiting::read(body)?;
-    let settings = record.at(count).first;
-    let handed = record
-        .check()
-        .and_then(|()| sender::hand_out(&settings, waiting, turn));
+    let handed = sender::hand_out(&settings, waiting, turn);
     let mut spares = Spares::new();
     if let Ok(out) = &handed {
+        let settings = &settings;
         spares.frame(&Frame {
-            settings: &settings,
+            settings,
             waiting,
             turn,
             out,
@@ -157,32 +154,29 @@ pub fn limits() -> Vec<Settings> {
     list
 }
 
-/// What can be wrong with settings, always 13. Only the first touches p.
-pub const FAULTS: [Fault<Settings>; 9] = [
-    |settings, random| settings.p = random.pick(&[0, 256, 257, 260, (1 << 32) + 4, u64::MAX]),
-    |settings, _| settings.packets = 0,
-    one_packet_too_many,
-    |settings, random| settings.packets = random.pick(&[1 << 62, 1 << 63, u64::MAX]),
-    share_over_ceiling,
-    |settings, random| zero_ceiling(settings, random.below(3) as usize),
-    ceiling_over_packets,
-    shares_over_packets,
-    |settings, _| settings.shares = [1 << 63, 1 << 63, 0],
-];
-
-/// These settings with one of the faults that do not touch p.
-pub fn spoiled(random: &mut Random, settings: &Settings) -> Settings {
-    let mut spoiled = *settings;
-    random.pick(&FAULTS[1..])(&mut spoiled, random);
-    spoiled
+/// What can be wrong with settings, always 13.
+pub fn faults<T: Set>() -> Vec<Fault<T>> {
+    vec![
+        |set, random| set.settings().p = random.pick(&[0, 256, 257, 260, (1 << 32) + 4, u64::MAX]),
+        |set, _| set.settings().packets = 0,
+        one_packet_too_many,
+        |set, random| set.settings().packets = random.pick(&[1 << 62, 1 << 63, u64::MAX]),
+        share_over_ceiling,
+        |set, random| zero_ceiling(set.settings(), random.below(3) as usize),
+        |set, random| ceiling_over_packets(set.settings(), random),
+        shares_over_packets,
+        |set, _| set.settings().shares = [1 << 63, 1 << 63, 0],
+    ]
 }
 
 /// A frame that is longer than it may be, by as little as its packets allow.
-fn one_packet_too_many(settings: &mut Settings, _random: &mut Random) {
+fn one_packet_too_many<T: Set>(set: &mut T, _random: &mut Random) {
+    let settings = set.settings();
     settings.packets = most_packets(settings.p.min(LARGEST_P)) + 1;
 }
 
-fn share_over_ceiling(settings: &mut Settings, random: &mut Random) {
+fn share_over_ceiling<T: Set>(set: &mut T, random: &mut Random) {
+    let settings = set.settings();
     let id = random.below(3) as usize;
     settings.shares = [0; 3];
     settings.ceilings[id] = settings.packets.saturating_sub(1).max(1);
@@ -203,7 +197,8 @@ fn ceiling_over_packets(settings: &mut Settings, random: &mut Random) {
 }
 
 /// Every share within its ceiling, the sum one too many.
-fn shares_over_packets(settings: &mut Settings, random: &mut Random) {
+fn shares_over_packets<T: Set>(set: &mut T, random: &mut Random) {
+    let settings = set.settings();
     let packets = settings.packets;
     let first = random.below(packets.clamp(1, 1 << 62)) + 1;
     settings.ceilings = [packets; 3];
@@ -218,11 +213,6 @@ pub fn good(random: &mut Random) -> Settings {
         1 => random.pick(&[1, 2, 3, 254, LARGEST_P]),
         _ => 1 + random.below(12),
     };
-    good_with(random, p)
-}
-
-/// Likewise, with that p, which is 1 to 255.
-pub fn good_with(random: &mut Random, p: u64) -> Settings {
     let packets = match random.below(40) {
         0 => most_packets(p),
         1 => 1 + random.below(most_packets(p)),
@@ -269,70 +259,28 @@ pub fn busy_p(random: &mut Random) -> u64 {
     1 + random.below(12)
 }
 
-/// Limits of N for each of these p, and one above.
-fn lengths() -> Vec<Settings> {
-    let mut list = Vec::new();
+fn fixed_checks(random: &mut Random) -> Vec<Vec<u8>> {
+    let mut list: Vec<Check> = limits().into_iter().map(Check).collect();
     for p in [1, 2, 3, 4, 61, 254, LARGEST_P] {
         for packets in [most_packets(p), most_packets(p) + 1] {
-            list.push(of(p, packets, [0; 3], [1; 3]));
-            list.push(of(p, packets, [0; 3], [packets; 3]));
+            list.push(Check(of(p, packets, [0; 3], [1; 3])));
+            list.push(Check(of(p, packets, [0; 3], [packets; 3])));
         }
     }
-    list
-}
-
-/// Shares and ceilings of one queue at their limits and past them.
-fn of_one_queue() -> Vec<Settings> {
-    let mut list = Vec::new();
+    for settings in [example(), limits()[3], limits()[9]] {
+        list.extend(faults::all(&Check(settings), &faults(), random));
+    }
     for id in 0..QUEUES {
         let mut changed = example();
         zero_ceiling(&mut changed, id);
-        list.push(changed);
+        list.push(Check(changed));
         for (share, ceiling) in [(0, 10), (1, 11), (2, 1), (10, 10), (u64::MAX, u64::MAX)] {
             let mut changed = of(4, 10, [0; 3], [10; 3]);
             (changed.shares[id], changed.ceilings[id]) = (share, ceiling);
-            list.push(changed);
+            list.push(Check(changed));
         }
     }
-    list
-}
-
-/// Good settings with each of these as the second set, for the same p: it waits, and it does not.
-pub fn second_sets() -> Vec<Record> {
-    let mut list = Vec::new();
-    for settings in [limits(), lengths(), of_one_queue()].concat() {
-        let first = of(settings.p, 2, [1, 0, 1], [2, 1, 2]);
-        let mut record = Record::waiting(first, 7, Set::of(&settings));
-        list.push(record);
-        record.second.waits = 0;
-        list.push(record);
-    }
-    list
-}
-
-fn fixed_checks(random: &mut Random) -> Vec<Vec<u8>> {
-    let alone = [
-        limits(),
-        lengths(),
-        of_one_queue(),
-        vec![Settings::default()],
-    ]
-    .concat();
-    let mut list: Vec<Check> = alone.iter().map(|first| Check((*first).into())).collect();
-    for first in [example(), limits()[3], limits()[9]] {
-        let faults = records::first_faults();
-        list.extend(faults::all(&Check(first.into()), &faults, random));
-    }
-    list.extend(second_sets().into_iter().map(Check));
-    for first in [example(), limits()[3]] {
-        let good = Check(records::waiting(random, first));
-        list.extend(faults::all(&good, &records::faults(), random));
-        // None waits: whatever stands there.
-        for mut idle in faults::all(&good, &records::second_faults(), random) {
-            idle.0.second.waits = 0;
-            list.push(idle);
-        }
-    }
+    list.push(Check(Settings::default()));
     bodies(list)
 }
 
@@ -355,48 +303,6 @@ fn turn(random: &mut Random) -> u64 {
     }
 }
 
-/// Each of two sets in force, by the counts on both sides of the second one's.
-fn hand_outs_of_both(random: &mut Random) -> Vec<Waiting> {
-    let mut list = Vec::new();
-    let larger = of(4, 12, [1, 6, 2], [4, 12, 12]);
-    let pairs = [[example(), larger], [larger, example()]];
-    for [first, second] in pairs {
-        for count in records::COUNTS {
-            let record = Record::waiting(first, count, Set::of(&second));
-            let mut idle = record;
-            idle.second.waits = 0;
-            for named in [count, count.wrapping_add(1), count.wrapping_sub(1)] {
-                let turn = random.below(3);
-                list.extend([record, idle].map(|record| Waiting {
-                    record,
-                    count: named,
-                    waiting: [20, 20, 20],
-                    turn,
-                }));
-            }
-        }
-    }
-    list
-}
-
-/// A waiting set that is refused, at its own frame and at another.
-fn hand_outs_refused(random: &mut Random) -> Vec<Waiting> {
-    let mut list = Vec::new();
-    for count in [0, 1] {
-        for fault in records::second_faults() {
-            let mut bad = Waiting {
-                record: Record::waiting(example(), 0, Set::of(&limits()[3])),
-                count,
-                waiting: [20; 3],
-                turn: 0,
-            };
-            fault(&mut bad, random);
-            list.push(bad);
-        }
-    }
-    list
-}
-
 fn fixed_hand_outs(random: &mut Random) -> Vec<Vec<u8>> {
     let mut list = Vec::new();
     for (packets, turn) in [
@@ -406,8 +312,7 @@ fn fixed_hand_outs(random: &mut Random) -> Vec<Vec<u8>> {
         ([16, 16, 18], 2),
     ] {
         list.push(Waiting {
-            record: example().into(),
-            count: 0,
+            settings: example(),
             waiting: packets,
             turn,
         });
@@ -416,39 +321,26 @@ fn fixed_hand_outs(random: &mut Random) -> Vec<Vec<u8>> {
         for turn in [0, 1, 2, 3, 4, 5, u64::MAX] {
             for some in [[0; 3], [u64::MAX; 3], settings.shares, settings.ceilings] {
                 list.push(Waiting {
-                    record: settings.into(),
-                    count: 0,
+                    settings,
                     waiting: some,
                     turn,
                 });
             }
         }
     }
-    list.extend(faults::all(
-        &list[0].clone(),
-        &records::first_faults(),
-        random,
-    ));
-    list.extend(hand_outs_of_both(random));
-    list.extend(hand_outs_refused(random));
+    list.extend(faults::all(&list[0].clone(), &faults(), random));
     bodies(list)
 }
 
 fn random_hand_out(random: &mut Random) -> Vec<u8> {
-    let record = records::good(random);
-    let count = records::near(random, record.second.count);
-    // By the set in force, now and then by the other.
-    let by = random
-        .pick(&[record.at(count), record.at(count), record])
-        .first;
+    let settings = good(random);
     let handed = Waiting {
-        record,
-        count,
-        waiting: [0, 1, 2].map(|id| waiting(random, &by, id)),
+        settings,
+        waiting: [0, 1, 2].map(|id| waiting(random, &settings, id)),
         turn: turn(random),
     };
     match random.below(8) {
-        0 => faults::some(handed, &records::faults(), random).body(),
+        0 => faults::some(handed, &faults(), random).body(),
         _ => handed.body(),
     }
 }
@@ -477,10 +369,10 @@ mod tests {
     fn every_fault_is_one() {
         let mut random = Random::new(2);
         for _ in 0..200 {
-            for fault in FAULTS {
-                let mut settings = good(&mut random);
-                fault(&mut settings, &mut random);
-                assert_eq!(settings.check(), Err(Refusal::number(13)), "{settings:?}");
+            for fault in faults() {
+                let mut set = Check(good(&mut random));
+                fault(&mut set, &mut random);
+                assert_eq!(set.0.check(), Err(Refusal::number(13)), "{:?}", set.0);
             }
         }
     }

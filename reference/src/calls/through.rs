@@ -1,10 +1,7 @@
 //! Call 37: whole runs from a fresh sender to a fresh receiver (document 01, "Packets, queues and receiver";
-//! document 02, E5, E9 and E10).
+//! document 02, E5 and E9).
 
-mod sets;
-
-use super::records::{self, Recorded};
-use super::settings;
+use super::settings::{self, Set};
 use super::Call;
 use crate::answer::Answer;
 use crate::buffer::Buffer;
@@ -12,14 +9,12 @@ use crate::crc::crc16;
 use crate::faults;
 use crate::fields::{bodies, lines, Arguments, Fields};
 use crate::generate;
-use crate::nights::Night;
 use crate::packet::FRAMING;
 use crate::random::Random;
 use crate::reader::Reader;
-use crate::record::Record;
 use crate::refusal::{Refusal, LONGEST_INPUT};
-use crate::runs::{Added, Hearing};
-use crate::sender::{Sender, Settings, QUEUE_BYTES, STORE_BYTES, UNITS};
+use crate::runs::{Added, Hearing, Sending};
+use crate::sender::{Settings, QUEUE_BYTES, UNITS};
 
 /// Its values have no names: each step has five.
 pub const SCRIPT: Call = Call {
@@ -42,7 +37,7 @@ const FRAME: u8 = 1;
 
 #[derive(Default, Clone)]
 struct Run {
-    record: Record,
+    settings: Settings,
     steps: Vec<Step>,
 }
 
@@ -52,34 +47,28 @@ struct Step {
     /// Of a load alone.
     id: u64,
     unit: Buffer,
-    /// Of a frame alone.
-    count: u32,
 }
 
 impl Arguments for Run {
     fn each(&mut self, fields: &mut impl Fields) -> Option<()> {
-        fields.record(&mut self.record)?;
+        fields.settings(&mut self.settings)?;
         let mut count = self.steps.len() as u8;
         fields.byte("steps", &mut count)?;
         self.steps.resize(usize::from(count), Step::default());
         for step in &mut self.steps {
             fields.byte("step of kind", &mut step.kind)?;
-            match step.kind {
-                LOAD => {
-                    fields.number("id", &mut step.id)?;
-                    fields.buffer("unit", &mut step.unit)?;
-                }
-                FRAME => fields.word("frame count", &mut step.count)?,
-                _ => {}
+            if step.kind == LOAD {
+                fields.number("id", &mut step.id)?;
+                fields.buffer("unit", &mut step.unit)?;
             }
         }
         Some(())
     }
 }
 
-impl Recorded for Run {
-    fn record(&mut self) -> &mut Record {
-        &mut self.record
+impl Set for Run {
+    fn settings(&mut self) -> &mut Settings {
+        &mut self.settings
     }
 }
 
@@ -111,32 +100,27 @@ impl Arrived {
 
 /// Both ends of the stream.
 struct Ends {
-    night: Night,
+    sending: Sending,
     hearing: Hearing,
 }
 
 impl Ends {
-    /// Both fresh.
-    fn new(record: Record) -> Ends {
+    fn fresh() -> Ends {
         Ends {
-            night: Night::new(record, Sender::default(), vec![0; STORE_BYTES]),
+            sending: Sending::fresh(),
             hearing: Hearing::fresh(),
         }
     }
 
     /// What arrives with a frame's packets.
-    fn frame(&mut self, count: u32) -> Result<Arrived, Refusal> {
-        let Settings { p, packets, .. } = self.night.record.at(count).first;
-        // Where the record is refused no length is enough.
-        let room = match self.night.record.check() {
-            Ok(()) => packets as usize * (p as usize + FRAMING),
-            Err(_) => 0,
-        };
-        let mut frame = vec![0; room];
-        self.night.frame(count, &mut frame)?;
+    fn frame(&mut self, settings: &Settings) -> Result<Arrived, Refusal> {
+        settings.check()?;
+        let length = settings.p as usize + FRAMING;
+        let mut frame = vec![0; settings.packets as usize * length];
+        self.sending.frame(settings, &mut frame)?;
         let mut arrived = Arrived::default();
-        for packet in frame.chunks(p as usize + FRAMING) {
-            let heard = self.hearing.step(p, packet)?;
+        for packet in frame.chunks(length) {
+            let heard = self.hearing.step(settings.p, packet)?;
             arrived.dropped += heard.dropped;
             if let Some(ended) = heard.ended {
                 let unit = ended.unit(&self.hearing.buffer).to_vec();
@@ -146,29 +130,29 @@ impl Ends {
         Ok(arrived)
     }
 
-    /// What is added up at the one end, and the balance of the other.
+    /// The spares of the one end and the balance of the other.
     fn added(&self) -> Added {
-        let mut added = self.night.added();
+        let mut added = self.sending.added();
         added.add(&self.hearing.added());
         added
     }
 }
 
 fn answer(body: &mut Reader) -> Option<Answer> {
-    let Run { record, steps } = Run::read(body)?;
+    let Run { settings, steps } = Run::read(body)?;
     if steps.len() > LONGEST || steps.iter().any(|step| step.kind > FRAME) {
         return None;
     }
-    let mut ends = Ends::new(record);
+    let mut ends = Ends::fresh();
     let mut last = Refusal::number(0);
     let mut values = Vec::new();
     for step in &steps {
         let done = match step.kind {
             LOAD => ends
-                .night
-                .load(step.id, &step.unit.bytes())
+                .sending
+                .load(&settings, step.id, &step.unit.bytes())
                 .map(|()| Arrived::default()),
-            _ => ends.frame(step.count),
+            _ => ends.frame(&settings),
         };
         last = *done.as_ref().err().unwrap_or(&Refusal::number(0));
         values.push(u64::from(last.number));
@@ -180,7 +164,6 @@ fn answer(body: &mut Reader) -> Option<Answer> {
     Some(answer)
 }
 
-/// With count 0.
 fn frame() -> Step {
     Step {
         kind: FRAME,
@@ -193,24 +176,17 @@ fn load(random: &mut Random, id: u64, length: usize) -> Step {
         kind: LOAD,
         id,
         unit: generate::compact(random, length),
-        ..Step::default()
     }
 }
 
 /// Loads of these lengths, then frames.
-fn of(
-    random: &mut Random,
-    record: impl Into<Record>,
-    lengths: &[(u64, usize)],
-    frames: usize,
-) -> Run {
+fn of(random: &mut Random, settings: Settings, lengths: &[(u64, usize)], frames: usize) -> Run {
     let mut steps: Vec<Step> = lengths
         .iter()
         .map(|(id, length)| load(random, *id, *length))
         .collect();
     steps.extend(vec![frame(); frames]);
-    let record = record.into();
-    Run { record, steps }
+    Run { settings, steps }
 }
 
 /// The limits of a queue and of a unit.
@@ -254,8 +230,7 @@ fn limits(random: &mut Random, settings: Settings) -> Vec<Run> {
             steps.push(load(random, 1, length));
         }
     }
-    let record = settings.into();
-    list.push(Run { record, steps });
+    list.push(Run { settings, steps });
     list
 }
 
@@ -265,8 +240,7 @@ fn pairs(random: &mut Random, settings: Settings, id: u64, lengths: &[usize]) ->
     for length in lengths {
         steps.extend([load(random, id, *length), frame()]);
     }
-    let record = settings.into();
-    Run { record, steps }
+    Run { settings, steps }
 }
 
 /// Runs that go round the rings of their queues (document 02, E9), with frames of one queue alone.
@@ -305,12 +279,11 @@ fn fixed(random: &mut Random) -> Vec<Vec<u8>> {
         list.push(of(random, settings, &lengths, 12));
     }
     let good = of(random, settings::example(), &[(0, 5), (1, 9)], 2);
-    list.extend(faults::all(&good, &records::first_faults(), random));
+    list.extend(faults::all(&good, &settings::faults(), random));
     for steps in [vec![load(random, 1, LONGEST_INPUT + 1)], vec![]] {
-        let record = Record::default();
-        list.push(Run { record, steps });
+        let settings = Settings::default();
+        list.push(Run { settings, steps });
     }
-    list.extend(sets::fixed(random));
     // An unknown kind, and a step too many.
     let mut unknown = good.clone();
     unknown.steps[1].kind = 2;
@@ -407,8 +380,7 @@ fn busy(random: &mut Random) -> Run {
             _ => frame(),
         });
     }
-    let record = settings.into();
-    Run { record, steps }
+    Run { settings, steps }
 }
 
 /// Few queues, long units, and frames that take nearly all of them.
@@ -425,20 +397,13 @@ fn random_round(random: &mut Random) -> Run {
         let id = random.pick(&ids);
         steps.extend([load(random, id, length), frame()]);
     }
-    let record = settings.into();
-    Run { record, steps }
+    Run { settings, steps }
 }
 
 fn random_run(random: &mut Random) -> Vec<u8> {
     match random.below(20) {
-        0..=3 => {
-            let run = busy(random);
-            return sets::put_in(random, run).body();
-        }
-        4 => {
-            let run = random_round(random);
-            return sets::put_in(random, run).body();
-        }
+        0..=3 => return busy(random).body(),
+        4 => return random_round(random).body(),
         _ => {}
     }
     let settings = drawn_settings(random);
@@ -463,10 +428,9 @@ fn random_run(random: &mut Random) -> Vec<u8> {
     // The last ones stay: they decide the number.
     let over = steps.len().saturating_sub(LONGEST);
     steps.drain(..over);
-    let record = settings.into();
-    let run = sets::put_in(random, Run { record, steps });
+    let run = Run { settings, steps };
     match random.below(12) {
-        0 => faults::some(run, &records::faults(), random).body(),
+        0 => faults::some(run, &settings::faults(), random).body(),
         _ => run.body(),
     }
 }
@@ -521,14 +485,14 @@ mod tests {
 
     /// Bytes that go into each queue.
     fn loaded(run: &Run) -> [usize; QUEUES] {
-        let (mut ends, mut loaded) = (Ends::new(run.record), [0; QUEUES]);
+        let (mut sending, mut loaded) = (Sending::fresh(), [0; QUEUES]);
         for step in &run.steps {
             if step.kind == FRAME {
-                let _ = ends.frame(step.count);
+                let _ = sending.frame(&run.settings, &mut [0; 8_190]);
                 continue;
             }
             let unit = step.unit.bytes();
-            if ends.night.load(step.id, &unit).is_ok() {
+            if sending.load(&run.settings, step.id, &unit).is_ok() {
                 loaded[step.id as usize] += unit.len();
             }
         }
@@ -557,19 +521,18 @@ mod tests {
     #[test]
     fn what_is_dropped_is_added_up() {
         let settings = settings::of(4, 2, [1, 1, 0], [1; 3]);
-        let mut ends = Ends::new(settings.into());
+        let mut ends = Ends::fresh();
         for (id, length) in [(0, 5), (1, 9)] {
             let unit = vec![7; length];
-            assert_eq!(ends.night.load(id, &unit), Ok(()));
+            assert_eq!(ends.sending.load(&settings, id, &unit), Ok(()));
         }
         let dropped = [false, true].map(|lost| {
             if lost {
-                let mut sender = ends.night.sending.sender;
+                let mut sender = ends.sending.sender;
                 sender.indexes = sender.indexes.map(|index| index + 1);
-                let store = ends.night.sending.store.clone();
-                ends.night = Night::new(settings.into(), sender, store);
+                ends.sending = Sending::new(sender, ends.sending.store.clone());
             }
-            ends.frame(0).unwrap().values()
+            ends.frame(&settings).unwrap().values()
         });
         assert_eq!(dropped, [[0; 4], [0, 0, 0, 8]]);
         assert_eq!(ends.added().differences, [""; 0]);

@@ -236,7 +236,7 @@ mod tests {
         let Some(first) = script.steps.first() else {
             return vec![false; KINDS.len()];
         };
-        let p = first.record.first.p.clamp(1, 255);
+        let p = first.settings.p.clamp(1, 255);
         let wrong = wrong_queues(&script.sender, p);
         let numbers = numbers(script);
         let (one, frame) = (wrong.len() == 1, first.kind == FRAME);
@@ -269,9 +269,8 @@ mod tests {
         let mut last: Option<Settings> = None;
         for step in &script.steps {
             let sums = |p| run.sender.queues.map(|queue| queue.summed(p));
-            let now = step.record.at(step.count).first;
-            let (p, units) = (now.p, run.sender.queues.map(|queue| queue.units));
-            let met = last.filter(|last| *last != now && step.record.check().is_ok());
+            let (p, units) = (step.settings.p, run.sender.queues.map(|queue| queue.units));
+            let met = last.filter(|last| *last != step.settings && step.settings.check().is_ok());
             let kind = met.map(|last| match (p == last.p, units == [0; 3]) {
                 (true, _) => 0,
                 (false, true) => 1,
@@ -280,17 +279,15 @@ mod tests {
             });
             let mut output = script.output.bytes();
             let done = match step.kind {
-                LOAD => run.load_by(&step.record, step.id, &step.unit.bytes()),
-                _ => run
-                    .frame_by(&step.record, step.count, &mut output)
-                    .map(drop),
+                LOAD => run.load(&step.settings, step.id, &step.unit.bytes()),
+                _ => run.frame(&step.settings, &mut output).map(drop),
             };
             if let Some(kind) = kind {
                 assert!(kind < 3 || done == Err(Refusal::number(17)));
                 found[kind] |= kind == 3 || done.is_ok();
             }
             if done.is_ok() {
-                last = Some(now);
+                last = Some(step.settings);
             }
         }
         found

@@ -231,7 +231,7 @@ impl Round {
 
     /// What is refused leaves all as it was.
     fn play(&mut self, step: &Step, bytes: &mut [u8]) {
-        let settings = &step.record.first;
+        let settings = &step.settings;
         let _ = match step.kind {
             LOAD => self
                 .sender
@@ -350,13 +350,10 @@ mod tests {
         let mut output = script.output.bytes();
         let (mut list, mut last) = (Vec::new(), None);
         for step in &script.steps {
-            let (before, record) = (sender, &step.record);
-            let unit = step.unit.bytes();
+            let (before, settings) = (sender, &step.settings);
             let done = match step.kind {
-                LOAD => record.load(&mut sender, &mut bytes, step.id, &unit),
-                _ => record
-                    .frame(step.count, &mut sender, &bytes, &mut output)
-                    .map(drop),
+                LOAD => sender.load(settings, &mut bytes, step.id, &step.unit.bytes()),
+                _ => sender.frame(settings, &bytes, &mut output).map(drop),
             };
             list.push(Met {
                 step,
@@ -364,10 +361,10 @@ mod tests {
                 after: sender,
                 number: done.err().map_or(0, |refusal| refusal.number),
                 other_store: bytes.len() != STORE_BYTES,
-                other_p: last.is_some_and(|last| last != record.first.p),
+                other_p: last.is_some_and(|last| last != settings.p),
             });
             if done.is_ok() {
-                last = Some(record.first.p);
+                last = Some(settings.p);
             }
         }
         list
@@ -394,7 +391,7 @@ mod tests {
     impl Met<'_> {
         fn is_miscounted(&self) -> bool {
             let mut queues = self.before.queues.iter();
-            queues.any(|queue| u64::from(queue.waiting) != queue.summed(self.step.record.first.p))
+            queues.any(|queue| u64::from(queue.waiting) != queue.summed(self.step.settings.p))
         }
 
         /// Which kinds the step is of, in that queue.
@@ -420,7 +417,7 @@ mod tests {
                 loaded && end(&before) >= QUEUE_BYTES,
                 loaded && before.units == 0 && moved,
                 this && full && moved && self.number == 15,
-                taken && packet_over(&before, &after, self.step.record.first.p),
+                taken && packet_over(&before, &after, self.step.settings.p),
                 taken && after.start == 0,
                 taken && end(&before) > QUEUE_BYTES && after.start < before.start,
                 taken && after.units == 0 && after.start > 0,

@@ -1,11 +1,10 @@
-//! Senders for the cases of calls 35 and 39: states that are allowed, and what can be wrong in one (document 01, "Numbers
+//! Senders for the cases of call 35: states that are allowed, and what can be wrong in one (document 01, "Numbers
 //! given back": 17; document 02, E1 and E9).
 
 use crate::faults::Fault;
 use crate::packet::LARGEST_P;
 use crate::random::Random;
 use crate::sender::{Queue, Sender, QUEUES, QUEUE_BYTES, UNITS};
-use std::ops::Range;
 
 /// A state that is allowed with that p, reached by any sender or by none.
 pub fn state(random: &mut Random, p: u64) -> Sender {
@@ -153,24 +152,6 @@ fn two_overfull() -> Queue {
 fn sent_too_long(queue: &mut Queue) {
     one_left(queue, 0, 4_096 - 839);
     queue.sent = 840;
-}
-
-/// Sent bytes that are no multiple of p; where p is 1, too many of them. The counts are right.
-pub fn no_multiple(sender: &mut Sender, random: &mut Random, p: u64) {
-    let queue = any(sender, random);
-    one_left(queue, 0, 3);
-    queue.sent = match p {
-        2..=1_000 => p * random.below(3) + 1 + random.below(p - 1),
-        _ => QUEUE_BYTES as u64,
-    };
-    count(sender, p);
-}
-
-/// One of those kinds of 17, with counts that are right: it alone decides.
-pub fn spoil(sender: &mut Sender, random: &mut Random, p: u64, kinds: Range<usize>) {
-    let kinds = &BROKEN[kinds];
-    kinds[random.below(kinds.len() as u64) as usize](sender, random);
-    count(sender, p);
 }
 
 /// A queue without room, for lack of bytes or of units. The counts and the start are left.
