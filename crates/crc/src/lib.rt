@@ -1,4 +1,6 @@
 // The check words of ETSI ES 201 980 (000), annex D.
+#![tactic(auto)]
+
 ghost use Rattle.std.specs.Prelude.{◌≡◌};
 ghost use Rattle.crc.specs.Crc.{crc_of, feed, bits_of};
 
