@@ -1,5 +1,7 @@
 // Date and time of a count of seconds since 2000-01-01T00:00:00 in days of 86,400 seconds, for the people who read timestamps. For UTC
 // the count is a timestamp's seconds less its UTCO (002, annex B).
+#![tactic(auto)]
+
 ghost use Rattle.std.specs.Prelude.{◌≡◌, ◌+◌, ◌*◌, ◌≤◌, ◌<◌};
 ghost use Rattle.calendar.specs.Calendar.{leap, year_days, month_days, days_of_years, days_of_months, DateOf};
 

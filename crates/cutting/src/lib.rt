@@ -1,5 +1,7 @@
 // A file of records one behind the other, read in blocks of any length: what the bytes of a record begun can say, and bytes gathered until
 // they say more. How such a file is cut, and that the limits of the blocks make no difference, is in specs/Cutting.antt and proofs/Blocks.antt.
+#![tactic(auto)]
+
 ghost use Rattle.std.specs.Prelude.{◌≡◌, ◌≤◌, length, take};
 ghost use Rattle.moves.specs.Moves.{placed};
 ghost use Rattle.cutting.specs.Gather.{missing};

@@ -1,5 +1,7 @@
 // Energy dispersal (01, "Dispersal"; 000, 7.2.2): data from an input to an output buffer, XORed with the dispersal bytes, which are worked out
 // from the register while going along.
+#![tactic(auto)]
+
 ghost use Rattle.std.specs.Prelude.{◌≡◌, ◌/◌, ◌%◌};
 ghost use Rattle.dispersal.specs.Dispersal.{push, next, number_for, output_for};
 

@@ -1,4 +1,6 @@
 // Big-endian numbers of 16, 32 and 64 bits in a slice, at any offset: a number lies wholly within the slice, or it is not there.
+#![tactic(auto)]
+
 ghost use Rattle.std.specs.Prelude.{◌≡◌, ◌+◌, ◌*◌, ◌^◌, ◌<◌, ◌≤◌, leb, length};
 ghost use Rattle.laws.specs.Big.{number_at};
 ghost use Rattle.fields.specs.Numbers.{put_at};

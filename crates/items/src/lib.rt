@@ -1,5 +1,7 @@
 // TAG items of a lent packet (01, "MDI packet"; 002, clause 5): a name of 4 bytes, a length in bits of 4 bytes, and a value of that length
 // rounded up to whole bytes. Items follow each other; fewer than 8 bytes behind the last are padding.
+#![tactic(auto)]
+
 ghost use Rattle.std.specs.Prelude.{◌≡◌, ◌+◌, ◌*◌, ◌^◌, ◌≤◌, length};
 ghost use Rattle.items.specs.Items.{bytes_for, size_at, cut_of, walked_of, shown_at};
 

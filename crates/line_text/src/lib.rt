@@ -1,6 +1,8 @@
 // Texts put into a buffer one behind the other, for the programs `layout` and `inspect` (01, "The description and the frame it
 // cuts"). Each call asks for room that its caller can tell beforehand; where that is not there, nothing is written and the answer is the
 // offset itself.
+#![tactic(auto)]
+
 ghost use Rattle.std.specs.Prelude.{◌++◌, ◌+◌, ◌≤◌, length};
 ghost use Rattle.line_text.specs.Decimal.{decimal, number_line, pair_line};
 ghost use Rattle.line_text.specs.Line.{Placed};

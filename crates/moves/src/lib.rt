@@ -1,4 +1,6 @@
 // Bytes put into a lent slice: copied from another, or zeros. Where they have no room there, nothing is written.
+#![tactic(auto)]
+
 ghost use Rattle.std.specs.Prelude.{◌≡◌, replicate};
 ghost use Rattle.moves.specs.Moves.{placed, behind};
 

@@ -1,5 +1,7 @@
 // One data packet (01, "Packets, queues and receiver"; 000, 6.6.1.1 and 6.6.1.2): checked, read and written. p is the number of its
 // data bytes; a header byte stands before them and the CRC-16 of all that behind them.
+#![tactic(auto)]
+
 ghost use Rattle.std.specs.Prelude.{◌≡◌, ◌∷◌, ◌+◌, ◌≤◌, ◌<◌, length};
 ghost use Rattle.laws.specs.Refuse.{refused_with};
 ghost use Rattle.laws.specs.Written.{written};

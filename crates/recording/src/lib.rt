@@ -1,5 +1,7 @@
 // The house's recording file (01, "Clock and recordings"): a version byte, then for each packet a 4-byte big-endian length and the packet.
 // Offsets and places are 64 bits. No call reads a packet.
+#![tactic(auto)]
+
 ghost use Rattle.std.specs.Prelude.{◌≡◌, ◌+◌, ◌≤◌, length};
 ghost use Rattle.laws.specs.Written.{written};
 ghost use Rattle.recording.specs.Recording.{opened_for, step_for, told, told_for, packet_for, started_for, start_output, grown_for, output_for};

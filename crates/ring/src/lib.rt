@@ -1,4 +1,6 @@
 // Bytes that stand in a ring (02, E9): from a place on to the end, and on from the front.
+#![tactic(auto)]
+
 ghost use Rattle.std.specs.Prelude.{◌≡◌};
 ghost use Rattle.ring.specs.Ring.{copied_out, copied_in};
 

@@ -1,0 +1,15 @@
+-- `calendar::month_days` meets its contract: the two tables are computed and compared. Assumes nothing.
+use mathlib.Core.Bool.{true, false}
+use mathlib.Core.Path.{refl}
+use Rattle.calendar.specs.Calendar.{month_days}
+use Rattle.calendar.proofs.Days.{month_is}
+use borrow.Author.Rules.{rules}
+use Rattle.calendar.proofs.month_days.Goals as goal
+
+pub returns-then-long : goal.returns-then-long
+unfolding month_days
+returns-then-long c = month_is _ true c.args.month _ _ c.if-long.true refl c.wide.ensures
+
+pub returns : goal.returns
+unfolding month_days
+returns c = month_is _ false c.args.month _ _ c.if-long.false refl c.wide-2.ensures

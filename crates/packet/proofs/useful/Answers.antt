@@ -1,0 +1,23 @@
+-- `packet::useful` meets its contract. Assumes nothing.
+use native.Mathlib.Omega.{arith}
+use borrow.Author.Rules.{rules}
+use Rattle.packet.proofs.Reading.{is_passed, useful_refused, padded_in, useful_padded, useful_full}
+use Rattle.packet.proofs.useful.Goals as goal
+
+pub returns-then-check-ne0 : goal.returns-then-check-ne0
+returns-then-check-ne0 c = useful_refused _ _ _ c.check.ensures c.if-check-ne0.true
+
+pub bounds-bytes-0 : goal.bounds-bytes-0
+bounds-bytes-0 c = let k = is_passed _ _ _ c.check.ensures c.if-check-ne0.false in omega (arith, k.whole)
+
+pub bounds-bytes-1 : goal.bounds-bytes-1
+bounds-bytes-1 c = let k = is_passed _ _ _ c.check.ensures c.if-check-ne0.false in omega (arith, k.whole)
+
+pub returns-then-is_padded : goal.returns-then-is_padded
+returns-then-is_padded c = useful_padded _ _ _ c.check.ensures c.if-check-ne0.false _ c.is_padded.ensures c.if-is_padded.true _ c.wide-n.ensures.0
+
+pub overflow_add-result-2 : goal.overflow_add-result-2
+overflow_add-result-2 c = let k = is_passed _ _ _ c.check.ensures c.if-check-ne0.false in omega (arith, k.high)
+
+pub returns : goal.returns
+returns c = useful_full _ _ _ c.check.ensures c.if-check-ne0.false _ c.is_padded.ensures c.if-is_padded.false

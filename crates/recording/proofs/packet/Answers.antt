@@ -1,0 +1,18 @@
+-- `recording::packet` meets its contract. Assumes nothing.
+use mathlib.Core.Path.{sym, ◌∙◌}
+use native.Mathlib.Omega.{arith}
+use Rattle.recording.proofs.Answers.{entry_means, packet_there, packet_ended, packet_refused}
+use borrow.Author.Rules.{rules}
+use Rattle.recording.proofs.packet.Goals as goal
+
+pub slice_bounds-result-count : goal.slice_bounds-result-count
+slice_bounds-result-count c = let w = entry_means _ _ _ _ _ (sym c.next.ensures.0 ∙ c.start-1.given.1) in omega (arith, w.ends)
+
+pub returns-in-Entry : goal.returns-in-Entry
+returns-in-Entry c = packet_there _ _ _ _ _ (sym c.next.ensures.0 ∙ c.start-1.given.1)
+
+pub returns-in-End : goal.returns-in-End
+returns-in-End c = packet_ended _ _ (sym c.next.ensures.0 ∙ c.enum_told-1.given.1)
+
+pub returns-in-Refused : goal.returns-in-Refused
+returns-in-Refused c = packet_refused _ _ _ _ (sym c.next.ensures.0 ∙ c.enum_told-in-Refused-1.given.1)
