@@ -23,7 +23,7 @@ fn mode_in(body: &[u8]) -> u8 {
 
 // The lengths of four buffers that stand one behind the other in a body, and where it goes on. Where one does not stand whole in it that
 // is its end, so that no further one does.
-#[derive(Drop)]
+#[derive(Clone, Copy)]
 pub struct Four {
     pub a: usize,
     pub b: usize,

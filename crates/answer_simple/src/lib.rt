@@ -4,7 +4,7 @@ use cases::case;
 use saying::Said;
 
 // Bytes before the first buffer and between the two; and which buffers there are: one to read, one that is lent to write to.
-#[derive(Drop)]
+#[derive(Clone, Copy)]
 struct Form {
     head: usize,
     gap: usize,

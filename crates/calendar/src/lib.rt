@@ -5,7 +5,7 @@
 ghost use Rattle.std.specs.Prelude.{◌≡◌, ◌+◌, ◌*◌, ◌≤◌, ◌<◌};
 ghost use Rattle.calendar.specs.Calendar.{leap, year_days, month_days, days_of_years, days_of_months, DateOf};
 
-#[derive(Drop)]
+#[derive(Clone, Copy)]
 pub struct Date {
     pub year: u64,
     pub month: u8,
@@ -16,7 +16,7 @@ pub struct Date {
 }
 
 // Whole years or months that went by, and the days left of the one that did not.
-#[derive(Drop)]
+#[derive(Clone, Copy)]
 struct Passed {
     count: u64,
     rest: u64,

@@ -2,7 +2,7 @@
 ghost use Rattle.std.specs.Prelude.{◌≡◌, ◌+◌, ◌<◌, ◌≤◌, min, ◌&&◌, length, ◌==◌, slice_index};
 
 // A buffer that was read: its bytes stand at the front of the slice that it was read into. next is where the body goes on.
-#[derive(Drop)]
+#[derive(Clone, Copy)]
 pub struct Taken {
     pub whole: bool,
     pub len: usize,

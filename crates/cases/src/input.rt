@@ -5,7 +5,7 @@ use crate::case;
 
 // What was read: nothing, where the input has ended; a whole case, whose body stands at the front of the slice; or one that is cut off or
 // too large, with call 0, which is none, after which nothing more can be read.
-#[derive(Drop)]
+#[derive(Clone, Copy)]
 pub struct Case {
     pub ended: bool,
     pub whole: bool,

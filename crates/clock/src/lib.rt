@@ -1,5 +1,7 @@
 // Timestamps of MDI packets (01, "Clock and recordings" and the item `tist`; 002, 5.2.2): as 8 bytes and back, the next one, and which follows
 // which (02, E3).
+#![tactic(auto)]
+
 ghost use Rattle.std.specs.Prelude.{◌≡◌, ◌<◌, ◌^◌};
 ghost use Rattle.laws.specs.Refuse.{refused_with};
 ghost use Rattle.clock.specs.Follows.{one_more, utco_follows, follows_for};
@@ -9,7 +11,7 @@ ghost use Rattle.clock.specs.Stamps.{Within, bits_of, stamp_from, field_tests, e
 use moves::Wrote;
 
 // Seconds since 2000-01-01T00:00:00 UTC, leap seconds counted; UTCO is what they are ahead of UTC by (002, annex B: DRM = UTC + UTCO).
-#[derive(Drop)]
+#[derive(Clone, Copy)]
 pub struct Stamp {
     pub utco: u16,
     pub seconds: u64,
@@ -17,13 +19,13 @@ pub struct Stamp {
 }
 
 // The answer of a call that gives a timestamp: all zeros where it refuses.
-#[derive(Drop)]
+#[derive(Clone, Copy)]
 pub struct Stamped {
     pub number: u32,
     pub stamp: Stamp,
 }
 
-#[derive(Drop)]
+#[derive(Clone, Copy)]
 pub struct Judged {
     pub number: u32,
     pub yes: bool,

@@ -7,7 +7,7 @@ ghost use Rattle.moves.specs.Moves.{placed};
 ghost use Rattle.cutting.specs.Gather.{missing};
 
 // The record has more bytes to come, it is whole, or it is wrong whatever follows.
-#[derive(Drop)]
+#[derive(Clone, Copy)]
 pub enum Sign {
     More,
     Whole,

@@ -1,4 +1,6 @@
 // The description of the streams (01, "The description and the frame it cuts"): the `sdci` value and the type 0 entity, read and written.
+#![tactic(auto)]
+
 ghost use Rattle.std.specs.Prelude.{◌≡◌, [], ◌||◌, ◌&&◌, not, ◌+◌, ◌*◌, ◌≤◌, ◌<◌, length, take, drop};
 ghost use Rattle.laws.specs.Big.{big_of};
 ghost use Rattle.laws.specs.Refuse.{refused_with};
@@ -12,21 +14,21 @@ ghost use Rattle.description.specs.Answers.{writing_tests, write_for, output_for
 use moves::Wrote;
 
 // The lengths in bytes of a stream's part A and part B.
-#[derive(Drop)]
+#[derive(Clone, Copy)]
 pub struct Lengths {
     pub a: u16,
     pub b: u16,
 }
 
 // The protection levels of parts A and parts B.
-#[derive(Drop)]
+#[derive(Clone, Copy)]
 pub struct Levels {
     pub a: u8,
     pub b: u8,
 }
 
 // The streams in use are the first count slots; the slots behind them hold zeros.
-#[derive(Drop)]
+#[derive(Clone, Copy)]
 pub struct Description {
     pub level: Levels,
     pub count: usize,
@@ -34,13 +36,13 @@ pub struct Description {
 }
 
 // Number 0: read.
-#[derive(Drop)]
+#[derive(Clone, Copy)]
 pub struct Described {
     pub number: u32,
     pub description: Description,
 }
 
-#[derive(Drop)]
+#[derive(Clone, Copy)]
 pub struct Entity {
     pub number: u32,
     pub version: u8,

@@ -1,5 +1,7 @@
 // The fast access channel (01, "MDI packet", FAC; 000, 6.3): 18 fields in 64 bits with a CRC-8 behind them, read and written. All bits
 // are kept, reserved ones too.
+#![tactic(auto)]
+
 ghost use Rattle.std.specs.Prelude.{◌≡◌, ◌≤◌, ◌<◌, ◌^◌, length, take, drop};
 ghost use Rattle.laws.specs.Fields.{number_of};
 ghost use Rattle.laws.specs.Refuse.{refused_with};
@@ -11,7 +13,7 @@ ghost use Rattle.fac.specs.Answers.{no_fac, read_tests, read_for, write_tests, w
 use moves::Wrote;
 
 // The fields in the order of their bits.
-#[derive(Drop)]
+#[derive(Clone, Copy)]
 pub struct Fac {
     pub base: u8,
     pub identity: u8,
@@ -34,7 +36,7 @@ pub struct Fac {
 }
 
 // The answer of a call that reads: all zeros where it refuses.
-#[derive(Drop)]
+#[derive(Clone, Copy)]
 pub struct Announced {
     pub number: u32,
     pub fac: Fac,

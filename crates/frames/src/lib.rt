@@ -11,7 +11,7 @@ use moves::Wrote;
 use places::Part;
 
 // Number 0: the bytes of each stream.
-#[derive(Drop)]
+#[derive(Clone, Copy)]
 pub struct Streams {
     pub number: u32,
     pub len: [usize; 4],

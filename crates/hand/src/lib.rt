@@ -1,12 +1,14 @@
 // The settings of a shared stream, and how many packets of a frame each of its three queues gets (01, "Packets, queues and
 // receiver"): its share first, then spares one at a time.
+#![tactic(auto)]
+
 ghost use Rattle.std.specs.Prelude.{true, ◌≡◌, ◌+◌, ◌≤◌, ◌<◌, ◌^◌, min};
 ghost use Rattle.hand.specs.Settings.{at, total, unfit, settings_for};
 ghost use Rattle.hand.specs.Hand.{low, bump, free, give, give_one, spread, hand_out, hand_for};
 
 // One number for each queue, by its id: 0, 1, 2.
 #[repr(C)]
-#[derive(Drop)]
+#[derive(Clone, Copy)]
 pub struct Three {
     pub a: usize,
     pub b: usize,
@@ -15,7 +17,7 @@ pub struct Three {
 
 // p data bytes a packet, n packets a frame, and a share and a ceiling for each queue.
 #[repr(C)]
-#[derive(Drop)]
+#[derive(Clone, Copy)]
 pub struct Settings {
     pub p: usize,
     pub n: usize,
@@ -24,7 +26,7 @@ pub struct Settings {
 }
 
 // What is handed out so far, and whose turn it is.
-#[derive(Drop)]
+#[derive(Clone, Copy)]
 pub struct Plan {
     pub packets: Three,
     pub turn: usize,
@@ -32,7 +34,7 @@ pub struct Plan {
 
 // The number; the packets of a frame for each queue, the spares among them, the filler, and the turn after it. All zero where it is
 // refused.
-#[derive(Drop)]
+#[derive(Clone, Copy)]
 pub struct Handed {
     pub number: u32,
     pub packets: Three,

@@ -17,7 +17,7 @@ use sender::{Framed, Loaded, Sender};
 // What a packet brought: the number; whether a unit is complete, its id and length, all 0 where none is; the bytes of an open unit that were
 // dropped (02, E5); and the record after the call.
 #[repr(C)]
-#[derive(Drop)]
+#[derive(Clone, Copy)]
 pub struct Received {
     pub number: u32,
     pub delivered: bool,

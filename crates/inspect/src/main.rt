@@ -13,7 +13,7 @@ const BLOCK: usize = 65536;
 
 // `at`: bytes of the block taken. `used`: none are left of it, or no more are wanted. `stop`: the recording is refused, or a line could not
 // be written.
-#[derive(Drop)]
+#[derive(Clone, Copy)]
 struct Run {
     report: Report,
     at: usize,
@@ -38,7 +38,7 @@ fn print(out: &[u8; 1024], n: usize) -> bool {
 }
 
 // What a read gave.
-#[derive(Drop)]
+#[derive(Clone, Copy)]
 struct Got {
     failed: bool,
     count: usize,

@@ -6,14 +6,14 @@ ghost use Rattle.std.specs.Prelude.{◌≡◌, ◌+◌, ◌*◌, ◌^◌, ◌≤
 ghost use Rattle.items.specs.Items.{bytes_for, size_at, cut_of, walked_of, shown_at};
 
 // Where a value starts in the packet and how many bits it has; 0 and 0: there is no such item.
-#[derive(Drop)]
+#[derive(Clone, Copy)]
 pub struct Spot {
     pub start: usize,
     pub bits: u32,
 }
 
 // Where the whole items stop, and how many they are.
-#[derive(Drop)]
+#[derive(Clone, Copy)]
 pub struct Walked {
     pub stop: usize,
     pub count: usize,

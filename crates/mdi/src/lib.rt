@@ -16,7 +16,7 @@ use record::{Record, Time};
 
 // Number 0: the packet is well formed, and its known items stand at these spots. The place is an offset in the packet for 2 and 3, else
 // 0.
-#[derive(Drop)]
+#[derive(Clone, Copy)]
 pub struct Verdict {
     pub number: u32,
     pub place: usize,
@@ -197,7 +197,7 @@ fn check(packet: &[u8]) -> Verdict
 }
 
 // Number 0: read. A refused packet gives an empty record. The place is an offset in the packet for 2 and 3, else 0.
-#[derive(Drop)]
+#[derive(Clone, Copy)]
 pub struct Answer {
     pub number: u32,
     pub place: usize,

@@ -39,14 +39,14 @@ pub const STR3: usize = 9;
 pub const TIST: usize = 10;
 
 // Where the value of each row's item starts in the packet, and how many bits it has; 0 and 0: there is no such item.
-#[derive(Drop)]
+#[derive(Clone, Copy)]
 pub struct Spots {
     pub start: [usize; 11],
     pub bits: [u32; 11],
 }
 
 // What one walk over a packet gives: the spots of its known items, and the offset behind its last whole item.
-#[derive(Drop)]
+#[derive(Clone, Copy)]
 pub struct Passed {
     pub spots: Spots,
     pub stop: usize,

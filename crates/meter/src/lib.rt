@@ -11,7 +11,7 @@ use record::{Record, Time};
 
 // Of a packet read: the number, and what shows that its record was made. The byte is one of the SDC data, 0 where there is none.
 #[repr(C)]
-#[derive(Drop)]
+#[derive(Clone, Copy)]
 pub struct Seen {
     pub number: u32,
     pub count: u32,

@@ -6,7 +6,7 @@ ghost use Rattle.moves.specs.Moves.{placed, behind};
 
 // The answer of a call that writes, in this crate and those above it: 01's number, and how many bytes of the output are written, none
 // where it is refused.
-#[derive(Drop)]
+#[derive(Clone, Copy)]
 pub struct Wrote {
     pub number: u32,
     pub length: usize,

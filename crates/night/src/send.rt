@@ -5,7 +5,7 @@ use night_plan::SLOTS;
 use sender::Sender;
 
 // Sender and numbers, by value: the prover pays more for what is lent on and on.
-#[derive(Drop)]
+#[derive(Clone, Copy)]
 pub(crate) struct Sent {
     pub(crate) s: Sender,
     pub(crate) book: [usize; SLOTS],

@@ -3,7 +3,7 @@ use night_plan::{SLOTS, list};
 use receiver::{Answer, Receiver};
 
 // Receiver and numbers, by value: the prover pays more for what is lent on and on.
-#[derive(Drop)]
+#[derive(Clone, Copy)]
 pub struct Heard {
     pub r: Receiver,
     pub book: [usize; SLOTS],

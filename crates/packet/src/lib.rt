@@ -11,7 +11,7 @@ ghost use Rattle.packet.specs.Calls.{check_for, read_for, useful_for, write_test
 use moves::Wrote;
 
 // What a packet's header says, and how many useful bytes it has. All zero where it is refused.
-#[derive(Drop)]
+#[derive(Clone, Copy)]
 pub struct Head {
     pub number: u32,
     pub first: bool,

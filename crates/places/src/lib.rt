@@ -6,14 +6,14 @@ ghost use Rattle.places.specs.Parts.{bad_capacity, used_by, parts_of, no_part, l
 use description::Description;
 
 // Where a part stands in the frame.
-#[derive(Drop)]
+#[derive(Clone, Copy)]
 pub struct Part {
     pub at: usize,
     pub len: usize,
 }
 
 // Number 0: the parts A of streams 0 to 3, then the parts B, and the padding behind them.
-#[derive(Drop)]
+#[derive(Clone, Copy)]
 pub struct Places {
     pub number: u32,
     pub part: [Part; 8],

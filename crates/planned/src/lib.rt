@@ -10,7 +10,7 @@ use sender::{Loaded, Sender};
 
 // The sender's answer to a frame, and the record of settings after it.
 #[repr(C)]
-#[derive(Drop)]
+#[derive(Clone, Copy)]
 pub struct Framed {
     pub number: u32,
     pub next: Sender,

@@ -7,7 +7,7 @@ use hand::{Handed, Settings, Three};
 
 // Whether a set waits; the frame count at which it takes over; its N, shares and ceilings. Where none waits the rest is not looked at.
 #[repr(C)]
-#[derive(Drop)]
+#[derive(Clone, Copy)]
 pub struct Second {
     pub waits: bool,
     pub count: u32,
@@ -18,7 +18,7 @@ pub struct Second {
 
 // The first set, with p, and the second set.
 #[repr(C)]
-#[derive(Drop)]
+#[derive(Clone, Copy)]
 pub struct Plans {
     pub now: Settings,
     pub second: Second,
@@ -26,7 +26,7 @@ pub struct Plans {
 
 // The number, and the record after the call.
 #[repr(C)]
-#[derive(Drop)]
+#[derive(Clone, Copy)]
 pub struct Changed {
     pub number: u32,
     pub next: Plans,

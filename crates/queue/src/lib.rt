@@ -1,4 +1,6 @@
 // One queue of units (01, "Packets, queues and receiver"): its state by value, in numbers. The bytes themselves stand in the lent store.
+#![tactic(auto)]
+
 ghost use Rattle.std.specs.Prelude.{◌≡◌, false, ◌%◌, ◌≤◌, min};
 ghost use Rattle.queue.specs.Queue.{packets, units, unsent, any_empty, broken, no_units, pushed};
 ghost use Rattle.queue.specs.Stored.{wrong};
@@ -6,7 +8,7 @@ ghost use Rattle.queue.specs.Taken.{head_len, drop_first, pop_for};
 
 // Up to eight units that are not finished, in the order of loading: the bytes left of each, and how many bytes of the first are sent.
 #[repr(C)]
-#[derive(Drop)]
+#[derive(Clone, Copy)]
 pub struct Queue {
     pub left: [u16; 8],
     pub count: usize,

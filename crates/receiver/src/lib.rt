@@ -14,7 +14,7 @@ use packet::Head;
 
 // What is known of one id: whether a packet of it has come, the next index, whether a unit is open, and its bytes so far.
 #[repr(C)]
-#[derive(Drop)]
+#[derive(Clone, Copy)]
 pub struct Link {
     pub heard: bool,
     pub index: u8,
@@ -23,13 +23,13 @@ pub struct Link {
 }
 
 #[repr(C)]
-#[derive(Drop)]
+#[derive(Clone, Copy)]
 pub struct Receiver {
     pub link: [Link; 4],
 }
 
 // What a packet brought.
-#[derive(Drop)]
+#[derive(Clone, Copy)]
 pub enum Answer {
     // No unit is complete.
     Nothing,
@@ -39,7 +39,7 @@ pub enum Answer {
 }
 
 // The answer, the bytes of an open unit that the packet dropped (02, E5), and the record after the call.
-#[derive(Drop)]
+#[derive(Clone, Copy)]
 pub struct Told {
     pub answer: Answer,
     pub dropped: usize,
@@ -47,7 +47,7 @@ pub struct Told {
 }
 
 // The same where the record after the call stands behind a loan.
-#[derive(Drop)]
+#[derive(Clone, Copy)]
 pub struct Heard {
     pub answer: Answer,
     pub dropped: usize,

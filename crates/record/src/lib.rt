@@ -8,13 +8,13 @@ ghost use Rattle.record.specs.Succession.{time_tests, stamp_before, times_follow
 use clock::{Judged, Stamp};
 
 // The timestamp, where there is one.
-#[derive(Drop)]
+#[derive(Clone, Copy)]
 pub enum Time {
     Absent,
     Given { stamp: Stamp },
 }
 
-#[derive(Drop)]
+#[derive(Clone, Copy)]
 pub struct Record {
     pub count: u32,
     pub fac: fac::Fac,

@@ -7,7 +7,7 @@ ghost use Rattle.laws.specs.Written.{written};
 ghost use Rattle.recording.specs.Recording.{opened_for, step_for, told, told_for, packet_for, started_for, start_output, grown_for, output_for};
 
 // `first` is the offset of the first entry.
-#[derive(Drop)]
+#[derive(Clone, Copy)]
 pub struct Opened {
     pub number: u32,
     pub place: u64,
@@ -15,7 +15,7 @@ pub struct Opened {
 }
 
 // What stands at an offset of a recording.
-#[derive(Drop)]
+#[derive(Clone, Copy)]
 pub enum Step {
     // An entry: its packet is `length` bytes at `start`, and the next entry begins at `next`.
     Entry { start: u64, length: u32, next: u64 },
@@ -25,7 +25,7 @@ pub enum Step {
 }
 
 // `length` is that of the recording after the call: there the next entry goes.
-#[derive(Drop)]
+#[derive(Clone, Copy)]
 pub struct Grown {
     pub number: u32,
     pub length: u64,

@@ -6,21 +6,21 @@ ghost use Rattle.repeats.specs.Tree.{Tree, Ends, Stored, Zeros, Looked};
 ghost use Rattle.repeats.specs.Repeats.{repeat_of, repeat_for};
 
 // Whether there is such an item, and its offset in the packet.
-#[derive(Drop)]
+#[derive(Clone, Copy)]
 pub struct Repeat {
     pub found: bool,
     pub place: usize,
 }
 
 // The node of a key, or the free place below the last node on its way.
-#[derive(Drop)]
+#[derive(Clone, Copy)]
 struct Step {
     found: bool,
     at: usize,
 }
 
 // The answer, where the arrays had room for all the names.
-#[derive(Drop)]
+#[derive(Clone, Copy)]
 struct Sought {
     full: bool,
     first: Repeat,

@@ -13,14 +13,14 @@ use tally::Tally;
 use walk::{Ended, Walk};
 
 // The counts so far, and the last packet that was read, where there is any.
-#[derive(Drop)]
+#[derive(Clone, Copy)]
 pub struct Seen {
     pub tally: Tally,
     pub any: bool,
     pub last: Record,
 }
 
-#[derive(Drop)]
+#[derive(Clone, Copy)]
 pub struct Report {
     pub walk: Walk,
     pub seen: Seen,
@@ -28,7 +28,7 @@ pub struct Report {
 
 // `taken`: bytes of the block; the rest is handed over again. `broken` and `line`: bytes of the line of a break and of a packet, 0 where
 // there is none.
-#[derive(Drop)]
+#[derive(Clone, Copy)]
 pub struct Shown {
     pub report: Report,
     pub taken: usize,
@@ -37,13 +37,13 @@ pub struct Shown {
 }
 
 // The bytes of the summary, and of the line of a refusal, 0 where there is none.
-#[derive(Drop)]
+#[derive(Clone, Copy)]
 pub struct Closed {
     pub summary: usize,
     pub refusal: usize,
 }
 
-#[derive(Drop)]
+#[derive(Clone, Copy)]
 struct Told {
     seen: Seen,
     broken: usize,

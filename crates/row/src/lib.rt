@@ -12,7 +12,7 @@ ghost use Rattle.row.specs.Private.{InRegion};
 use queue::Queue;
 
 // Where the writing of a queue's packets stands: what is left, how many of its bytes are read, and the next index.
-#[derive(Drop)]
+#[derive(Clone, Copy)]
 pub struct Out {
     pub q: Queue,
     pub at: usize,

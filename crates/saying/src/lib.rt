@@ -1,5 +1,7 @@
 // What a call says, by value: number, place and values; and how it is written down (docs/CASES.md, "An answer"). The bytes are
 // compared with the second program.
+#![tactic(auto)]
+
 ghost use Rattle.std.specs.Prelude.{◌≡◌, ◌&&◌, ◌≤◌, max};
 ghost use Rattle.saying.specs.Values.{begun, with};
 
@@ -9,7 +11,7 @@ use cases::answer;
 const MOST: usize = 256;
 
 // whole is false where the case was none after all.
-#[derive(Drop)]
+#[derive(Clone, Copy)]
 pub struct Said {
     pub whole: bool,
     pub number: u32,

@@ -1,19 +1,21 @@
 // The block of the service description channel (01, "MDI packet", `sdc_`; 000, 6.4.2): held by value, read out of a `sdc_` value and
 // written as one.
+#![tactic(auto)]
+
 ghost use Rattle.std.specs.Prelude.{◌≡◌, ◌∷◌, ◌+◌, ◌-◌, ◌≤◌, length, take, drop};
 ghost use Rattle.laws.specs.Written.{written};
 ghost use Rattle.moves.specs.Moves.{placed};
 ghost use Rattle.sdc.specs.Block.{capped, no_sdc, sdc_of, sealed, sealed16, sdc_bytes, size_of, afs_of, over_long, blank, is_too_large};
 
 // Whether there is a block, its AFS index and how many data bytes it has. None is not the same as a block without data.
-#[derive(Drop)]
+#[derive(Clone, Copy)]
 pub enum Head {
     Absent,
     Given { afs: u8, size: usize },
 }
 
 // The data bytes stand at the front of the body, zeros behind them; all zeros where there is no block.
-#[derive(Drop)]
+#[derive(Clone, Copy)]
 pub struct Sdc {
     pub head: Head,
     pub body: [u8; 1024],

@@ -17,7 +17,7 @@ use row::Out;
 
 // 01's part of the state, as its definitions have it: the three queues, whose turn it is to get a spare, and the next continuity index of
 // each id, filler last. In 01 the unsent bytes of each queue stand at the front of its part of the store: hence the name.
-#[derive(Drop)]
+#[derive(Clone, Copy)]
 pub struct Front {
     pub q: [Queue; 3],
     pub turn: usize,
@@ -28,7 +28,7 @@ pub struct Front {
 // shows them, and the place in its part of the store where its unsent bytes begin (E9). Load and frame keep both, and refuse a state in
 // which a count is wrong or a start is past 4,095.
 #[repr(C)]
-#[derive(Drop)]
+#[derive(Clone, Copy)]
 pub struct Sender {
     pub q: [Queue; 3],
     pub turn: usize,
@@ -39,7 +39,7 @@ pub struct Sender {
 
 // The number, and the state after the call.
 #[repr(C)]
-#[derive(Drop)]
+#[derive(Clone, Copy)]
 pub struct Loaded {
     pub number: u32,
     pub next: Sender,
@@ -47,7 +47,7 @@ pub struct Loaded {
 
 // The number, the state after the call, and what the frame holds: packets of each queue, spares among them, filler.
 #[repr(C)]
-#[derive(Drop)]
+#[derive(Clone, Copy)]
 pub struct Framed {
     pub number: u32,
     pub next: Sender,
@@ -57,7 +57,7 @@ pub struct Framed {
 }
 
 // Where the writing of a frame ends: of the three queues, and filler's next index.
-#[derive(Drop)]
+#[derive(Clone, Copy)]
 pub struct Ends {
     pub a: Out,
     pub b: Out,

@@ -13,7 +13,7 @@ const FRAME: usize = 8190;
 const UNITS: usize = 32768;
 
 // What a packet brought, as the values of an answer.
-#[derive(Drop)]
+#[derive(Clone, Copy)]
 struct Heard {
     number: u32,
     given: bool,
@@ -62,7 +62,7 @@ fn tell(r: Run, t: Told, s: Taken) -> Run {
 
 // What the packets of a frame delivered: how many units, the sum of (id + 1) times length, and where their bytes end in a slice that
 // gathers them; and the bytes that they dropped.
-#[derive(Drop)]
+#[derive(Clone, Copy)]
 struct Gathered {
     units: u64,
     sum: u64,

@@ -8,7 +8,7 @@ use sender::{Framed, Loaded, Sender};
 use stream_values::Run;
 
 // What a step did, where the body goes on behind it, and the packets of the frame, none where it is a load or refused.
-#[derive(Drop)]
+#[derive(Clone, Copy)]
 pub struct Acted {
     pub whole: bool,
     pub at: usize,

@@ -135,7 +135,7 @@ fn tell_receiver(said: Said, r: Receiver) -> Said {
 }
 
 // Where the next step stands in the body, what was said, the two states.
-#[derive(Drop)]
+#[derive(Clone, Copy)]
 pub struct Run {
     pub at: usize,
     pub said: Said,

@@ -7,7 +7,7 @@ use mdi::Answer;
 use record::Time;
 
 // `numbers` has for each number that `mdi::read` gives, 0 to 11, how many packets got it: 0 is a packet that was read. Counts wrap at 2^64.
-#[derive(Drop)]
+#[derive(Clone, Copy)]
 pub struct Tally {
     pub packets: u64,
     pub numbers: [u64; 12],

@@ -11,7 +11,7 @@ use recording::Step;
 
 // `number`: the refusal met, 0 while there is none. `at`: the offset in the file of the entry begun, modulo 2^64. `have`: how many of its
 // bytes stand at the front of the work buffer.
-#[derive(Drop)]
+#[derive(Clone, Copy)]
 pub struct Walk {
     pub number: u32,
     pub at: u64,
@@ -20,7 +20,7 @@ pub struct Walk {
 
 // `taken`: bytes of the block; the rest is handed over again. Where `whole`, an entry is complete, and its packet is the `size` bytes at
 // index 4 of the work buffer.
-#[derive(Drop)]
+#[derive(Clone, Copy)]
 pub struct Fed {
     pub walk: Walk,
     pub taken: usize,
@@ -29,7 +29,7 @@ pub struct Fed {
 }
 
 // The end of the walk: the number and place of a refusal, or 0.
-#[derive(Drop)]
+#[derive(Clone, Copy)]
 pub struct Ended {
     pub number: u32,
     pub place: u64,

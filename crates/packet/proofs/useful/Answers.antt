@@ -13,11 +13,17 @@ bounds-bytes-0 c = let k = is_passed _ _ _ c.check.ensures c.if-check-ne0.false 
 pub bounds-bytes-1 : goal.bounds-bytes-1
 bounds-bytes-1 c = let k = is_passed _ _ _ c.check.ensures c.if-check-ne0.false in omega (arith, k.whole)
 
+pub slice_bounds-result-end-then-is_padded : goal.slice_bounds-result-end-then-is_padded
+slice_bounds-result-end-then-is_padded c = padded_in _ _ _ c.check.ensures c.if-check-ne0.false _ c.is_padded.ensures c.if-is_padded.true _ c.wide-n.ensures.0
+
 pub returns-then-is_padded : goal.returns-then-is_padded
 returns-then-is_padded c = useful_padded _ _ _ c.check.ensures c.if-check-ne0.false _ c.is_padded.ensures c.if-is_padded.true _ c.wide-n.ensures.0
 
 pub overflow_add-result-2 : goal.overflow_add-result-2
 overflow_add-result-2 c = let k = is_passed _ _ _ c.check.ensures c.if-check-ne0.false in omega (arith, k.high)
+
+pub slice_bounds-result-end-2 : goal.slice_bounds-result-end-2
+slice_bounds-result-end-2 c = let k = is_passed _ _ _ c.check.ensures c.if-check-ne0.false in omega (arith, k.whole)
 
 pub returns : goal.returns
 returns c = useful_full _ _ _ c.check.ensures c.if-check-ne0.false _ c.is_padded.ensures c.if-is_padded.false

@@ -1,0 +1,6 @@
+-- `hand::Three::low` meets its contract. Assumes nothing.
+use borrow.Author.Rules.{rules}
+use Rattle.hand.proofs.Three.low.Goals as goal
+
+pub returns : goal.returns
+returns c = cc

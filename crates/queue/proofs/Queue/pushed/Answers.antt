@@ -1,0 +1,10 @@
+-- `queue::Queue::pushed` meets its contract. Assumes nothing.
+use borrow.Author.Rules.{rules}
+use Rattle.queue.proofs.Sums.{push_full, push_room}
+use Rattle.queue.proofs.Queue.pushed.Goals as goal
+
+pub returns-then-at-ge8 : goal.returns-then-at-ge8
+returns-then-at-ge8 c = search push_full
+
+pub returns : goal.returns
+returns c = search push_room
