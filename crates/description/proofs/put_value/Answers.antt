@@ -18,18 +18,18 @@ loop-i-init c = (omega arith, sym (written_none _ _), refl)
 pub put_lengths-requires : goal.put_lengths-requires
 put_lengths-requires c = let h = simp length-set at c.loop-i.invariant.2 in omega arith
 
-pub loop-i-preserved : goal.loop-i-preserved
-loop-i-preserved c =
-    let a = c.args in
-    let n : length a.t1.stream ≡ 4 = search sized in
-    let m = simp length-set at c.loop-i.invariant.2 in (
-      omega arith,
-      stream_turn _ _ _ a.at a.t1.stream c.loop-i.i _ (omega arith) (simp length-set (omega arith)) refl c.loop-i.invariant.1 c.put_lengths.ensures,
-      c.put_lengths.auto.1.0 ∙ c.loop-i.invariant.2,
-    )
-
 pub shape_of-out : goal.shape_of-out
 shape_of-out c = c.loop-i.invariant.2 ∙ simp length-set
 
 pub returns : goal.returns
 returns c = search (value_written)
+
+pub loop-i-preserved : goal.loop-i-preserved
+loop-i-preserved c =
+    let a = c.args in
+    let n : length a.d.stream ≡ 4 = search sized in
+    let m = simp length-set at c.loop-i.invariant.2 in (
+      omega arith,
+      stream_turn _ _ _ a.at a.d.stream c.loop-i.i _ (omega arith) (simp length-set (omega arith)) refl c.loop-i.invariant.1 c.put_lengths.ensures,
+      c.put_lengths.auto.out ∙ c.loop-i.invariant.2,
+    )

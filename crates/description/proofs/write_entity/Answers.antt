@@ -56,9 +56,6 @@ overflow_add-result-2 c =
     let w = writable _ _ _ _ _ _ c.write_number-number.ensures c.if-number-ne0.false in
     omega arith
 
-pub shape_of-out : goal.shape_of-out
-shape_of-out c = c.put_value.auto.1.0 ∙ simp length-set
-
 pub returns : goal.returns
 returns c =
     let a = c.args in

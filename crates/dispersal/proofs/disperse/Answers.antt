@@ -29,6 +29,11 @@ loop-i-init c = (omega arith, refl, refl, sym (written_none c.args.output.now 0)
 pub eight_more-more-requires : goal.eight_more-more-requires
 eight_more-more-requires c = c.loop-i.invariant.2
 
+pub returns : goal.returns
+returns c =
+    let a = c.args in
+    let both = done a.input.now a.output.now c.if-input-gt65528.false c.if-output-input.false c.loop-i.output c.loop-i.i c.loop-i-test.false c.loop-i.invariant.3 in record { answer = both.0; memory = both.1 }
+
 pub loop-i-preserved : goal.loop-i-preserved
 loop-i-preserved c =
     let a = c.args in
@@ -36,16 +41,11 @@ loop-i-preserved c =
     let h = c.loop-i-test.true in
     let n = c.loop-i.invariant in
     let m = c.eight_more-more.ensures in
-    let r = m.0 ∙ ap next n.1 in (
+    let r = m.register ∙ ap next n.1 in (
       omega arith,
       r ∙ after_one ones c.loop-i.i,
-      m.1,
+      m.above,
       written_front a.output.now c.loop-i.output (dispersed S) c.loop-i.i _ (rw length_dispersed (omega arith)) (rw length_dispersed h)
           (byte_at S c.loop-i.i _ h r) n.3,
       simp length-set n.4,
     )
-
-pub returns : goal.returns
-returns c =
-    let a = c.args in
-    let both = done a.input.now a.output.now c.if-input-gt65528.false c.if-output-input.false c.loop-i.output c.loop-i.i c.loop-i-test.false c.loop-i.invariant.3 in record { answer = both.0; memory = both.1 }

@@ -9,14 +9,8 @@ use Rattle.packet.proofs.put_plain.Goals as goal
 pub bounds-out-1 : goal.bounds-out-1
 bounds-out-1 c = simp length-set (omega arith)
 
-pub shape_of-out-then-n-p : goal.shape_of-out-then-n-p
-shape_of-out-then-n-p c = c.clear.auto.0 ∙ c.copy.auto.1.0 ∙ simp length-set
-
 pub returns-then-n-p : goal.returns-then-n-p
 returns-then-n-p c = plain_short _ _ c.args.useful.now c.args.out.now c.requires.3 c.if-n-p.true _ _ _ refl c.copy.ensures c.clear.ensures
-
-pub shape_of-out : goal.shape_of-out
-shape_of-out c = c.copy-2.auto.1.0 ∙ simp length-set
 
 pub returns : goal.returns
 returns c = plain_full _ _ c.args.useful.now c.args.out.now c.requires.3 c.requires.2 c.if-n-p.false _ c.copy-2.ensures

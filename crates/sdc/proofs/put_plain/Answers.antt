@@ -5,8 +5,5 @@ use lib.ListN.{length-set}
 use borrow.Author.Rules.{rules}
 use Rattle.sdc.proofs.put_plain.Goals as goal
 
-pub shape_of-out : goal.shape_of-out
-shape_of-out c = c.copy.auto.1.0 ∙ simp length-set
-
 pub returns : goal.returns
 returns c = plain_written _ c.args.body.now c.args.out.now _ c.requires _ c.copy.ensures

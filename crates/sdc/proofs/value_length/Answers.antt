@@ -11,4 +11,4 @@ returns-in-Absent c = search length_none
 pub returns-in-Given : goal.returns-in-Given
 returns-in-Given c =
     let n : length c.args.s.body ≡ 1024 = search rules in
-    length_given c.args.s _ _ _ c.head-1.given.1 n c.cap.ensures
+    length_given c.args.s _ _ _ c.in-Given.is n c.cap.ensures

@@ -16,11 +16,17 @@ overflow_add-sum c = search (rules, got_two)
 pub overflow_add-sum-2 : goal.overflow_add-sum-2
 overflow_add-sum-2 c = search (rules, got_three)
 
-pub overflow_add-result : goal.overflow_add-result
-overflow_add-result c = search (rules, met_three)
-
-pub overflow_sub-result : goal.overflow_sub-result
-overflow_sub-result c = search sum_in
-
 pub returns : goal.returns
 returns c = search hand_done
+
+pub overflow_add-result : goal.overflow_add-result
+overflow_add-result c = search (rules, met_two)
+
+pub overflow_add-result-2 : goal.overflow_add-result-2
+overflow_add-result-2 c = search (rules, met_three)
+
+pub overflow_sub-result : goal.overflow_sub-result
+overflow_sub-result c = search met_in
+
+pub overflow_sub-result-2 : goal.overflow_sub-result-2
+overflow_sub-result-2 c = search sum_in
