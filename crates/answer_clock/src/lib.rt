@@ -1,4 +1,6 @@
 // Calls 20 to 28 of docs/CASES.md: timestamps, recordings, dates. Nothing here decides an answer.
+#![tactic(auto)]
+
 ghost use Rattle.std.specs.Prelude.{◌≡◌};
 ghost use Rattle.answer_clock.specs.Values.{stamp_in};
 

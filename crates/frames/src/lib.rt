@@ -1,4 +1,6 @@
 // The multiplex frame (01, "The description and the frame it cuts"): built from its streams, and cut into them.
+#![tactic(auto)]
+
 ghost use Rattle.std.specs.Prelude.{◌≡◌, [], ◌∷◌, ◌++◌, ◌+◌, ◌≤◌, ◌||◌, ◌&&◌, eqb, ltb, length, get_or};
 ghost use Rattle.laws.specs.Refuse.{refused_with};
 ghost use Rattle.laws.specs.Written.{written};

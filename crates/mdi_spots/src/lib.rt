@@ -1,5 +1,7 @@
 // 01's table of items ("MDI packet"): where the known items of a packet stand, whether one that must be there is missing, and whether one
 // has a length that is not in the table. A row is its place in the table.
+#![tactic(auto)]
+
 ghost use Rattle.std.specs.Prelude.{◌≡◌, ◌≤◌, length};
 ghost use Rattle.items.specs.Items.{cut_of};
 ghost use Rattle.mdi_spots.specs.Table.{exactly, whole_bytes, sdc_bits, sdci_bits};

@@ -1,5 +1,7 @@
 // What is written down along the night, behind the numbers of the plan, and printed. A number a queue stands in three places, by id, one
 // with filler in four.
+#![tactic(auto)]
+
 mod table;
 
 use hand::Three;

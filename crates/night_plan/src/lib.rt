@@ -1,5 +1,7 @@
 // What the night is: the settings of the stream, the units and when they are due. The night is a list of numbers; the first of them are
 // the plan, in the order of the program's arguments, and the rest is what it counts. Constants name the places.
+#![tactic(auto)]
+
 pub mod list;
 pub mod text;
 mod wish;

@@ -1,4 +1,6 @@
 // The layout of the frame that a description cuts (01, "The description and the frame it cuts").
+#![tactic(auto)]
+
 ghost use Rattle.std.specs.Prelude.{◌≡◌, ◌≤◌, replicate};
 ghost use Rattle.laws.specs.Refuse.{refused_with};
 ghost use Rattle.places.specs.Parts.{bad_capacity, used_by, parts_of, no_part, layout_tests, layout_for};

@@ -1,5 +1,7 @@
 // The settings of a shared stream with a second set of N, shares and ceilings that waits for its frame count (02, E10): which set fills a
 // frame, and how another one is entered. p is the record's, for both sets.
+#![tactic(auto)]
+
 ghost use Rattle.std.specs.Prelude.{◌≡◌};
 ghost use Rattle.plans.specs.Plans.{alone, set_with, second_of, plans_for, in_force, change_for, plan_hand_for};
 

@@ -1,5 +1,7 @@
 // The receiver of a shared stream (01, "Packets, queues and receiver"): one packet a call. Its record is handed over and back as a value;
 // the bytes of the open units stand in a buffer that is lent, 4,096 for each id.
+#![tactic(auto)]
+
 ghost use Rattle.std.specs.Prelude.{◌≡◌, ◌≤◌, ◌<◌, length};
 ghost use Rattle.laws.specs.Pick.{pick};
 ghost use Rattle.moves.specs.Moves.{placed};

@@ -1,5 +1,7 @@
 // What an MDI packet says (01, "MDI packet"), but for its streams: content only, so that a record read and written again reads as the
 // same record. What the packet does not have is a case of its own. And which record follows which (01, "Clock and recordings").
+#![tactic(auto)]
+
 ghost use Rattle.std.specs.Prelude.{◌≡◌};
 ghost use Rattle.laws.specs.Refuse.{refused_with};
 ghost use Rattle.record.specs.Records.{no_record};

@@ -1,5 +1,7 @@
 // The first item of a packet whose name came earlier (01, "MDI packet"; refusal 3). The names are kept in a digital search tree: a name
 // is found or stored in at most 33 steps whatever the names are, so that no packet costs more than its bytes are worth.
+#![tactic(auto)]
+
 ghost use Rattle.std.specs.Prelude.{◌≡◌, ◌+◌, ◌*◌, ◌≤◌, ◌<◌, length, false};
 ghost use Rattle.items.specs.Items.{cut_of, twice};
 ghost use Rattle.repeats.specs.Tree.{Tree, Ends, Stored, Zeros, Looked};

@@ -1,4 +1,6 @@
 // The packets of one queue in a frame, one behind the other (01, "Packets, queues and receiver"), read from a ring (02, E9).
+#![tactic(auto)]
+
 ghost use Rattle.std.specs.Prelude.{◌≡◌, ◌+◌, ◌*◌, ◌≤◌, ◌<◌, ltb, length, get_or, take};
 ghost use Rattle.laws.specs.Pick.{pick};
 ghost use Rattle.laws.specs.Written.{written};

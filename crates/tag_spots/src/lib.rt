@@ -1,5 +1,7 @@
 // Where the items of a table stand in a packet, for any table of names: one walk (01, "MDI packet"). A row is known by its place in the
 // table; the numbers of its item stand at that place of two lent slices, 0 and 0 where there is no such item.
+#![tactic(auto)]
+
 ghost use Rattle.std.specs.Prelude.{◌≡◌, ◌^◌, ◌≤◌, ◌<◌, length};
 ghost use Rattle.items.specs.Items.{cut_of};
 ghost use Rattle.tag_spots.specs.Rows.{keys_of, starts_after, bits_after, starts_for, bits_for};

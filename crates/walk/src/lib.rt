@@ -1,6 +1,8 @@
 // A recording of any length walked as its bytes come in (01, "Clock and recordings"): the caller reads blocks of whatever length and hands
 // them over, and each call says how many bytes it took and whether a packet is whole. The limits of the blocks make no difference
 // (proofs/Blocks.antt).
+#![tactic(auto)]
+
 ghost use Rattle.std.specs.Prelude.{◌≡◌, ◌≤◌, min, length};
 ghost use Rattle.moves.specs.Moves.{placed};
 ghost use Rattle.recording.specs.Recording.{step_for};

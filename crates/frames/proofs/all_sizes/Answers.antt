@@ -1,0 +1,20 @@
+-- `frames::all_sizes` meets its contract. Assumes nothing.
+use lib.Dec.{lit<}
+use Rattle.description.proofs.Tests.{sized}
+use Rattle.frames.proofs.Cutting.{sizes_are}
+use Rattle.frames.proofs.all_sizes.Goals as goal
+
+pub bounds-d-0 : goal.bounds-d-0
+bounds-d-0 c = lit< tt
+
+pub bounds-d-1 : goal.bounds-d-1
+bounds-d-1 c = lit< tt
+
+pub bounds-d-2 : goal.bounds-d-2
+bounds-d-2 c = lit< tt
+
+pub bounds-d-3 : goal.bounds-d-3
+bounds-d-3 c = lit< tt
+
+pub returns : goal.returns
+returns c = (search (sizes_are, sized), search sized)

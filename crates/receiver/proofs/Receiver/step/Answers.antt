@@ -1,0 +1,20 @@
+-- `receiver::Receiver::step` meets its contract. Assumes nothing.
+use borrow.Author.Rules.{rules}
+use native.Mathlib.Omega.{arith}
+use Rattle.receiver.proofs.Steps.{step_refused, step_sum, step_inside, step_ready, step_done}
+use Rattle.receiver.proofs.Receiver.step.Goals as goal
+
+pub returns-then-number-ne0 : goal.returns-then-number-ne0
+returns-then-number-ne0 c = let both = step_refused _ _ c.args.packet.now c.args.buffer.now _ c.read-head.ensures _ c.number-number.ensures c.if-number-ne0.true in record { answer = both.0; values = both.1; memory = both.2 }
+
+pub overflow_add-to : goal.overflow_add-to
+overflow_add-to c = let f = step_sum _ _ c.args.packet.now c.args.buffer.now _ c.read-head.ensures _ c.number-number.ensures c.if-number-ne0.false _ c.start-from.ensures.answer in omega (arith, f, c.start-from.ensures.memory)
+
+pub slice_bounds-take-end : goal.slice_bounds-take-end
+slice_bounds-take-end c = step_inside _ _ c.args.packet.now c.args.buffer.now _ c.read-head.ensures _ c.number-number.ensures c.if-number-ne0.false _ c.start-from.ensures.answer
+
+pub take-requires : goal.take-requires
+take-requires c = step_ready _ _ c.args.packet.now c.args.buffer.now _ c.read-head.ensures _ c.number-number.ensures c.if-number-ne0.false _ c.start-from.ensures.answer
+
+pub returns : goal.returns
+returns c = let both = step_done _ _ c.args.packet.now c.args.buffer.now _ c.read-head.ensures _ c.number-number.ensures c.if-number-ne0.false _ c.start-from.ensures.answer _ _ c.take.ensures.value c.take.ensures.buffer_after in record { answer = both.0; values = both.1; memory = both.2 }

@@ -1,0 +1,14 @@
+-- What the loop of `descend` keeps, and how it ends. Assumes nothing.
+use Rattle.repeats.proofs.Trees.{On, on_start, ends_hit, go_on, go_down, go_out}
+use borrow.Author.Rules.{rules}
+use lib.ListN.{length, take}
+use native.Mathlib.Omega.{arith}
+use Prim.Native.Nat.{ℕ, ◌+◌, ◌-◌, ◌≤◌, ◌<◌}
+use mathlib.Core.Path.{◌≡◌, refl, sym, ap, ◌∙◌}
+use Rattle.repeats.proofs.descend.Given as goal
+
+abbrev pub invariant-loop-node : goal.invariant-loop-node
+invariant-loop-node l = On l.keys l.kids l.n l.key l.w l.node
+
+abbrev pub decreases-loop-node : goal.decreases-loop-node
+decreases-loop-node l = l.n - l.node

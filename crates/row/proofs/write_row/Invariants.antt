@@ -1,0 +1,15 @@
+-- What the loop of `write_row` keeps, and how it ends. Assumes nothing.
+use Prim.Native.Nat.{◌+◌, ◌-◌, ◌≤◌}
+use native.Mathlib.Omega.{arith}
+use borrow.Author.Rules.{rules}
+use lib.ListN.{length}
+use Rattle.ring.specs.Ring.{turned}
+use Rattle.row.proofs.Steps.{Writing, writing_first, writing_again, writing_done, next_in_law}
+use Rattle.row.proofs.Rings.{whole_in, whole_out}
+use Rattle.row.proofs.write_row.Given as goal
+
+abbrev pub invariant-loop-j : goal.invariant-loop-j
+invariant-loop-j l = Writing l.p l.id l.n (turned l.start l.ring) l.initial.dst l.w l.initial.r l.dst l.r l.at l.j
+
+abbrev pub decreases-loop-j : goal.decreases-loop-j
+decreases-loop-j l = l.n - l.j

@@ -1,0 +1,7 @@
+-- `walk::begin` meets its contract. Assumes nothing.
+use Rattle.walk.proofs.Calls.{begin_done}
+use Rattle.std.proofs.Common.{rules}
+use Rattle.walk.proofs.begin.Goals as goal
+
+pub returns : goal.returns
+returns c = begin_done _ _ c.open-o.ensures
