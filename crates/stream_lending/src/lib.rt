@@ -1,4 +1,6 @@
 // The receiver's step by its outer call. A program that holds the record as a value runs `receiver::step_in` by this function.
+#![tactic(auto)]
+
 ghost use Rattle.std.specs.Prelude.{◌≡◌, length};
 ghost use Rattle.receiver.specs.Receiver.{buffer_for};
 ghost use Rattle.receiver.specs.Dropped.{told_for, reported, report_for};

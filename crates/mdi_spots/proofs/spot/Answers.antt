@@ -4,4 +4,4 @@ use borrow.Author.Rules.{rules}
 use Rattle.mdi_spots.proofs.spot.Goals as goal
 
 pub returns-then-row-ge11 : goal.returns-then-row-ge11
-returns-then-row-ge11 c = no_row c.args.t1 _ (search rules) (search rules) c.if-row-ge11.true
+returns-then-row-ge11 c = no_row c.args.t _ (search rules) (search rules) c.if-row-ge11.true
