@@ -1,6 +1,8 @@
 // The calls of the C host (01, "The C host calls dispersal and the packet check directly, on numbers and bytes"), and those by which it
 // runs the shared stream itself: state, settings and answers as structs by value, stores and frames lent as pointer and length. Each has
 // the library's own promise; nothing is decided here. The C side is host/keshgurvat.h.
+#![tactic(auto)]
+
 ghost use Rattle.std.specs.Prelude.{◌≡◌, length};
 ghost use Rattle.dispersal.specs.Dispersal.{number_for, output_for};
 ghost use Rattle.packet.specs.Calls.{check_for};

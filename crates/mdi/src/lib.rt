@@ -1,5 +1,7 @@
 // The MDI packet read (01, "MDI packet" and "Numbers given back"; 002, clause 5): first the check, 1 to 11, then its record by value, and
 // each of its four streams as a part of the packet.
+#![tactic(auto)]
+
 ghost use Rattle.std.specs.Prelude.{◌≡◌, not, eqb, ◌+◌, ◌<◌, get_or};
 ghost use Rattle.laws.specs.Refuse.{refused_with};
 ghost use Rattle.items.specs.Items.{cut_of, bytes_for, find, spot_of};

@@ -1,4 +1,6 @@
 // Writes an MDI packet (01, "MDI packet"): the items of 01's table in its order, empty ones left out.
+#![tactic(auto)]
+
 ghost use Rattle.std.specs.Prelude.{◌≡◌, false, not, ◌||◌, [], ◌∷◌, ◌+◌, ◌*◌, ◌≤◌, ◌<◌, length, eqb, ltb};
 ghost use Rattle.laws.specs.Big.{bytes_of};
 ghost use Rattle.laws.specs.Limits.{longest};

@@ -1,5 +1,7 @@
 // The Sunday in October with two two-o'clocks, replayed: three queues share a stream, the map files are loaded twice, and the news
 // pages come through within their promise. Nothing here decides what is sent: the sender and the receiver of the library do.
+#![tactic(auto)]
+
 mod fit;
 mod send;
 

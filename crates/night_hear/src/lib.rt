@@ -1,4 +1,6 @@
 // The hearing side of the night: each packet of a frame that is not lost to the receiver, and what it brought to the book.
+#![tactic(auto)]
+
 use night_plan::{SLOTS, list};
 use receiver::{Answer, Receiver};
 

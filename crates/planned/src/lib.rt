@@ -1,5 +1,7 @@
 // The sender's calls by a record of settings with a second set (02, E10): a frame names its count, is filled by the set in force at it, and
 // gives the record back. Behind the check of the whole record each is the sender's own call.
+#![tactic(auto)]
+
 ghost use Rattle.std.specs.Prelude.{◌≡◌, eqb};
 ghost use Rattle.laws.specs.Pick.{pick};
 ghost use Rattle.planned.specs.Planned.{plan_load_for, plan_store_for, plan_frame_for, plan_frame_out};

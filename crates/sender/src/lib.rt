@@ -1,5 +1,7 @@
 // The sender of a shared stream (01, "Packets, queues and receiver"; 02, E1, E9): three queues of units and filler. Its state is handed
 // over and back as a value; the bytes of the units stand in a store that is lent, a ring of 4,096 for each queue.
+#![tactic(auto)]
+
 ghost use Rattle.std.specs.Prelude.{◌≡◌, ◌+◌, ◌*◌, ◌%◌, ◌≤◌, ◌<◌, length, get_or};
 ghost use Rattle.laws.specs.Part.{part_of};
 ghost use Rattle.laws.specs.Refuse.{refused_with};

@@ -1,0 +1,8 @@
+-- `mdi_write::is_agreed` meets its contract. Assumes nothing.
+use Rattle.description.proofs.Tests.{sized}
+use Rattle.mdi_write.proofs.Values.{four_said}
+use borrow.Author.Rules.{rules}
+use Rattle.mdi_write.proofs.is_agreed.Goals as goal
+
+pub returns : goal.returns
+returns c = (four_said _ _ _ _ _ _ _ _ _ _ _ _ c.said.ensures.0 c.said-2.ensures.0 c.said-3.ensures.0 c.said-4.ensures.0, search sized)
