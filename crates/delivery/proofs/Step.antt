@@ -110,7 +110,7 @@ module _ (p : ℕ) (u : List ℕ) (us : List (List ℕ)) (b : Bool) (i : ℕ) (l
   same_last h c ec =
       let g = last_line l i b (take p u) (fine_of true (null_some (not b) true (length (take p u)) (omega (arith, length-take p u, k.some.0)))) in
       let t : take p u ≡ u = take_all p u h in
-      let w : wholes (record { link = link_with i false 0; bytes = [] }) us ≡ us = wholes_none _ us refl in
+      let w : wholes (record { link = link_with i false 0; bytes = [] }) us ≡ us = wholes_none (record { link = link_with i false 0; bytes = [] }) us refl in
       let f : AllFit us = k.fit.1 in
       rw (ec, g.0, g.1, w) (
         record { index = λ e. refl; begun = refl; size = refl; none = λ e. refl; idle = λ e. refl; some = k.some.1; fit = rw w f },

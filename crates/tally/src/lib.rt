@@ -1,5 +1,7 @@
 // What the program `inspect` counts over a recording (01, "Clock and recordings"): packets, by the number that reading gave, breaks in the
 // succession, and the first and the last timestamp.
+#![tactic(auto)]
+
 ghost use Rattle.std.specs.Prelude.{◌≡◌};
 ghost use Rattle.tally.specs.Tally.{no_tally, earlier, more_for, counted_for};
 
