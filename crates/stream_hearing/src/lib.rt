@@ -1,4 +1,6 @@
 // Packets given to a receiver: those of call 36 (docs/CASES.md), and those of the frames of call 37. Nothing here decides an answer.
+#![tactic(auto)]
+
 ghost use Rattle.std.specs.Prelude.{◌<◌};
 
 use cases::case;

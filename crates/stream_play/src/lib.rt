@@ -1,4 +1,6 @@
 // The steps of a script of calls 35 to 37 (docs/CASES.md), one behind the other, each handed what the last one left.
+#![tactic(auto)]
+
 use stream_values::Run;
 
 fn step(r: Run, call: u8, body: &[u8], one: &mut [u8], two: &mut [u8]) -> Run {
