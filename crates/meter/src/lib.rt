@@ -1,4 +1,6 @@
 // Exports for the instruction counts of bench/; not delivered to the host.
+#![tactic(auto)]
+
 ghost use Rattle.std.specs.Prelude.{◌≡◌, length, get_or};
 ghost use Rattle.crc.specs.Crc.{crc_of};
 ghost use Rattle.dispersal.specs.Dispersal.{number_for, output_for};
