@@ -1,4 +1,6 @@
 // What the program `layout` prints (01, "The description and the frame it cuts"): the layout of a frame, or its refusal, as text.
+#![tactic(auto)]
+
 ghost use Rattle.std.specs.Prelude.{◌≡◌, ◌++◌, ◌+◌, ◌≤◌, length, take, drop};
 ghost use Rattle.laws.specs.Written.{written};
 ghost use Rattle.moves.specs.Moves.{Puts};
