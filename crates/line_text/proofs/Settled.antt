@@ -2,7 +2,6 @@
 -- written, the buffer before the call and the offset. Assumes nothing.
 use Prim.Native.Nat.{ℕ, ◌≤◌, ◌+◌}
 use mathlib.Core.List.{List, ◌++◌}
-use mathlib.Core.Path.{◌≡◌, sym, ap₂, ◌∙◌}
 use lib.ListN.{length}
 use Rattle.laws.specs.Settle.{Settles}
 use Rattle.line_text.specs.Line.{Placed}

@@ -3,7 +3,7 @@
 // offset itself.
 #![tactic(auto)]
 
-ghost use Rattle.std.specs.Prelude.{◌++◌, ◌+◌, ◌≤◌, length};
+ghost use Rattle.std.specs.Prelude.{◌≡◌, ◌++◌, ◌+◌, ◌≤◌, length, take};
 ghost use Rattle.line_text.specs.Decimal.{decimal, number_line, pair_line};
 ghost use Rattle.line_text.specs.Line.{Placed};
 
@@ -12,6 +12,24 @@ pub fn word(text: &[u8], out: &mut [u8], at: usize) -> usize
     ensures { (result ≤ at + length text.now) × Placed (length text.now) out.old at text.now out.new result }
 {
     moves::put(text, out, at)
+}
+
+// The digits of a number at the front of the buffer; the answer is how many.
+fn spell(n: u64, out: &mut [u8; 20]) -> usize
+    ensures { (result ≤ 20) × (take result out.new ≡ decimal n) }
+{
+    // The last digit comes first, so they stand at the end of an array before they are put to the front.
+    let mut digits = [0u8; 20];
+    let mut at = 20;
+    let mut rest = n;
+    while 10 <= rest {
+        at -= 1;
+        digits[at] = b'0' + (rest % 10) as u8;
+        rest /= 10;
+    }
+    at -= 1;
+    digits[at] = b'0' + rest as u8;
+    moves::put(&digits[at..], out, 0)
 }
 
 // A word and a number in decimal behind it. The room is that of the longest number, twenty digits, whatever the number.
@@ -30,7 +48,7 @@ pub fn named(text: &[u8], n: u64, out: &mut [u8], at: usize) -> usize
         return at;
     }
     let mut digits = [0u8; 20];
-    let k = io::decimal(n, &mut digits);
+    let k = spell(n, &mut digits);
     let a = moves::put(text, out, at);
     moves::put(&digits[..k], out, a)
 }

@@ -33,8 +33,8 @@ fn number(book: [usize; SLOTS], store: &mut [u8]) -> u32 {
 }
 
 // The night can be run; where it cannot, a sentence says why.
-pub(crate) fn is_fit(book: [usize; SLOTS], store: &mut [u8]) -> bool {
+pub(crate) fn is_fit(rt: &impl Print, book: [usize; SLOTS], store: &mut [u8]) -> bool {
     let number = number(book, store);
-    night_book::refuse(number as usize);
+    night_book::refuse(rt, number as usize);
     number == 0
 }

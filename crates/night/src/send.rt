@@ -49,10 +49,10 @@ fn load_all(n: Sent, store: &mut [u8]) -> Sent {
 }
 
 // What is due is loaded, and the frame written.
-pub(crate) fn send(n: Sent, store: &mut [u8], out: &mut [u8]) -> Sent {
+pub(crate) fn send(rt: &impl Print, n: Sent, store: &mut [u8], out: &mut [u8]) -> Sent {
     let s = n.s;
     let book = n.book;
-    let book = night_book::begin(book);
+    let book = night_book::begin(rt, book);
     let n = load_all(Sent { s, book }, store);
     let s = n.s;
     let book = n.book;
@@ -75,8 +75,8 @@ fn unfinished(s: Sender) -> Three {
 }
 
 // The end of a frame, with the units that are not wholly sent and the packets that wait now.
-pub(crate) fn end(s: Sender, book: [usize; SLOTS]) -> Sent {
+pub(crate) fn end(rt: &impl Print, s: Sender, book: [usize; SLOTS]) -> Sent {
     let book = night_book::settle(book, unfinished(s));
-    let book = night_book::end_frame(book, waiting(s, 0), waiting(s, 1), waiting(s, 2));
+    let book = night_book::end_frame(rt, book, waiting(s, 0), waiting(s, 1), waiting(s, 2));
     Sent { s, book }
 }

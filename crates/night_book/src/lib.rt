@@ -74,15 +74,21 @@ pub fn count(book: [usize; SLOTS], packets: Three, filler: usize) -> [usize; SLO
 }
 
 // The next frame: its number, and the job's start.
-pub fn begin(book: [usize; SLOTS]) -> [usize; SLOTS] {
+pub fn begin(rt: &impl Print, book: [usize; SLOTS]) -> [usize; SLOTS] {
     let mut b = book;
     b[FRAME] = list::plus(b[FRAME], 1);
-    table::start(b);
+    table::start(rt, b);
     b
 }
 
 // The line of the table, where one is due after a frame, with the packets that wait in each queue; the sums begin anew.
-pub fn end_frame(book: [usize; SLOTS], a: usize, b: usize, c: usize) -> [usize; SLOTS] {
+pub fn end_frame(
+    rt: &impl Print,
+    book: [usize; SLOTS],
+    a: usize,
+    b: usize,
+    c: usize,
+) -> [usize; SLOTS] {
     if !table::is_line_due(book) {
         return book;
     }
@@ -90,7 +96,7 @@ pub fn end_frame(book: [usize; SLOTS], a: usize, b: usize, c: usize) -> [usize; 
     next[WAITING] = a;
     next[WAITING + 1] = b;
     next[WAITING + 2] = c;
-    table::line(next);
+    table::line(rt, next);
     next[SUM] = 0;
     next[SUM + 1] = 0;
     next[SUM + 2] = 0;
@@ -126,13 +132,13 @@ pub fn note(book: [usize; SLOTS], id: usize, number: u32, waiting: usize) -> [us
 }
 
 // Page k is delivered: the frames from its loading on count, both among them. A share of 0 promises nothing.
-fn close_page(book: [usize; SLOTS], k: usize) -> [usize; SLOTS] {
+fn close_page(rt: &impl Print, book: [usize; SLOTS], k: usize) -> [usize; SLOTS] {
     let mut b = book;
     let i = k % 8;
     let bound = b[BOUND + i];
     let since = b[SINCE + i];
     let wait = std::num::wrapping_sub_usize(list::plus(b[FRAME], 1), since);
-    table::page(b, list::plus(k, 1), wait, bound);
+    table::page(rt, b, list::plus(k, 1), wait, bound);
     if (0 < bound) & (bound < wait) {
         b[LATE] = list::plus(b[LATE], 1);
     }
@@ -160,7 +166,7 @@ fn find(book: [usize; SLOTS], id: usize, unit: &[u8]) -> usize {
 
 // A unit of a queue came out of the receiver: it is one of those loaded, or it was changed on the way, as only eight packets of an id lost in
 // a row could do it, which the receiver cannot see. A news page is shown, with its wait.
-pub fn deliver(book: [usize; SLOTS], id: usize, unit: &[u8]) -> [usize; SLOTS] {
+pub fn deliver(rt: &impl Print, book: [usize; SLOTS], id: usize, unit: &[u8]) -> [usize; SLOTS] {
     let mut b = book;
     let i = id % 3;
     b[DELIVERED + i] = list::plus(b[DELIVERED + i], 1);
@@ -171,7 +177,7 @@ pub fn deliver(book: [usize; SLOTS], id: usize, unit: &[u8]) -> [usize; SLOTS] {
     }
     b[NEXT + i] = list::plus(k, 1);
     if id == night_plan::NEWS {
-        return close_page(b, k);
+        return close_page(rt, b, k);
     }
     b
 }

@@ -25,30 +25,31 @@ fn hours(frame: usize, hour: usize) -> usize {
 }
 
 // The number of a frame, and the wall clock. The hour from two to three comes twice: A in summer time, B in winter time.
-fn stamp(book: [usize; SLOTS]) {
+fn stamp(rt: &impl Print, book: [usize; SLOTS]) {
     let n = book[crate::FRAME];
     let frame = std::num::wrapping_sub_usize(n, 1);
     let hour = night_plan::hour(book);
     let h = hours(frame, hour) % 4 * 10;
     let m = minute(frame, hour);
     let text = b"\x05   1:\x01\x01  \x05  2A:\x01\x01  \x05  2B:\x01\x01  \x05   3:\x01\x01  ";
-    text::say(list::between(text, h, h + 10), &[n, m / 10, m % 10], 0);
+    text::say(rt, list::between(text, h, h + 10), &[n, m / 10, m % 10], 0);
 }
 
-fn told(book: [usize; SLOTS], text: &[u8]) {
-    stamp(book);
-    text::say(text, &book, night_plan::FILES);
+fn told(rt: &impl Print, book: [usize; SLOTS], text: &[u8]) {
+    stamp(rt, book);
+    text::say(rt, text, &book, night_plan::FILES);
 }
 
 // The job's start, where it is two o'clock by the wall clock.
-pub(crate) fn start(book: [usize; SLOTS]) {
+pub(crate) fn start(rt: &impl Print, book: [usize; SLOTS]) {
     let frame = book[crate::FRAME];
     let hour = night_plan::hour(book);
     if frame == list::plus(hour, 1) {
-        told(book, b"two o'clock: the job starts, \x01 map files\n");
+        told(rt, book, b"two o'clock: the job starts, \x01 map files\n");
     }
     if frame == list::plus(list::plus(hour, hour), 1) {
         told(
+            rt,
             book,
             b"two o'clock again: the job starts again, the same \x01 map files\n",
         );
@@ -56,12 +57,18 @@ pub(crate) fn start(book: [usize; SLOTS]) {
 }
 
 // How long a page waited, and how long it may: a share of 0 promises nothing.
-fn wait(n: usize, bound: usize) {
+fn wait(rt: &impl Print, n: usize, bound: usize) {
     if bound == 0 {
-        text::say(b"\x01 frame\x00, nothing promised (share 0)\n", &[n, n], 0);
+        text::say(
+            rt,
+            b"\x01 frame\x00, nothing promised (share 0)\n",
+            &[n, n],
+            0,
+        );
         return;
     }
     text::say(
+        rt,
         b"\x01 frame\x00, promised at most \x01\n",
         &[n, n, bound],
         0,
@@ -69,10 +76,10 @@ fn wait(n: usize, bound: usize) {
 }
 
 // A news page is delivered.
-pub(crate) fn page(book: [usize; SLOTS], k: usize, n: usize, bound: usize) {
-    stamp(book);
-    text::say(b"news page \x01 delivered: waited ", &[k], 0);
-    wait(n, bound);
+pub(crate) fn page(rt: &impl Print, book: [usize; SLOTS], k: usize, n: usize, bound: usize) {
+    stamp(rt, book);
+    text::say(rt, b"news page \x01 delivered: waited ", &[k], 0);
+    wait(rt, n, bound);
 }
 
 // The packets of a frame of n that a character of the bar stands for, so that a line fits on a screen.
@@ -89,9 +96,10 @@ pub(crate) fn is_line_due(book: [usize; SLOTS]) -> bool {
     book[crate::FRAME] % step == 0
 }
 
-pub(crate) fn line(book: [usize; SLOTS]) {
-    stamp(book);
+pub(crate) fn line(rt: &impl Print, book: [usize; SLOTS]) {
+    stamp(rt, book);
     text::say(
+        rt,
         b"\x06\x06\x06\x06 \x05\x05\x05\x08  \xb0\xb1\xb2\xae\n",
         &book,
         crate::SUM,
@@ -99,9 +107,10 @@ pub(crate) fn line(book: [usize; SLOTS]) {
 }
 
 // Why a night cannot be run: the number that the sender gives its settings or its units. 0 says nothing.
-pub fn refuse(number: usize) {
+pub fn refuse(rt: &impl Print, number: usize) {
     if number == 13 {
         text::write(
+            rt,
             b"night: the settings are refused (13). Their limits: p from 1 to 255; n from 1,
 with n(p+3) at most 8190; each share at most its ceiling; each ceiling from 1
 to n; the three shares together at most n.
@@ -111,6 +120,7 @@ to n; the three shares together at most n.
     }
     if number != 0 {
         text::say(
+            rt,
             b"night: a unit is refused (\x01). It has from 1 to 4096 bytes: news, map, station.\n",
             &[number],
             0,
@@ -118,8 +128,9 @@ to n; the three shares together at most n.
     }
 }
 
-pub fn head(book: [usize; SLOTS]) {
+pub fn head(rt: &impl Print, book: [usize; SLOTS]) {
     text::say(
+        rt,
         b"The Sunday with two two-o'clocks. Three queues share one stream of packets:
 0 news pages, 1 map files, 2 station data; a dot is filler. The job that loads
 the \x01 map files starts at two o'clock, and so it starts twice.
@@ -130,12 +141,14 @@ the \x01 map files starts at two o'clock, and so it starts twice.
     let g = grain(book[night_plan::N]);
     if 1 < g {
         text::say(
+            rt,
             b"A character of the bar stands for up to \x01 packets.\n",
             &[g],
             0,
         );
     }
     text::write(
+        rt,
         b"
                 packets sent of queue  packets waiting   bytes  the last frame,
 frame  time        0     1     2  fill     0    1    2 dropped  packet by packet
@@ -162,9 +175,10 @@ fn sum(book: [usize; SLOTS], at: usize) -> usize {
 
 // What did not come through, and what the receiver dropped of it. A unit is lost that was wholly sent and did not come out of the receiver;
 // one that is not wholly sent when the night ends is none of these, whatever it has lost so far.
-fn losses(book: [usize; SLOTS]) {
+fn losses(rt: &impl Print, book: [usize; SLOTS]) {
     let units = std::num::wrapping_sub_usize(sum(book, crate::NEXT), sum(book, crate::DELIVERED));
     text::say(
+        rt,
         b"packets lost on the way: \x01, units lost with them: \x01
 bytes dropped by the receiver: \x01
 ",
@@ -174,21 +188,22 @@ bytes dropped by the receiver: \x01
 }
 
 // The line of the news pages.
-fn pages(book: [usize; SLOTS]) {
+fn pages(rt: &impl Print, book: [usize; SLOTS]) {
     if book[crate::DELIVERED] == 0 {
-        text::write(b"news pages: none delivered\n");
+        text::write(rt, b"news pages: none delivered\n");
         return;
     }
-    text::say(b"news pages: \x01 delivered, ", &book, crate::DELIVERED);
-    text::say(b"\x01 late, longest wait ", &book, crate::LATE);
-    wait(book[crate::LONGEST], book[crate::PROMISE]);
+    text::say(rt, b"news pages: \x01 delivered, ", &book, crate::DELIVERED);
+    text::say(rt, b"\x01 late, longest wait ", &book, crate::LATE);
+    wait(rt, book[crate::LONGEST], book[crate::PROMISE]);
 }
 
-pub fn end(book: [usize; SLOTS]) {
+pub fn end(rt: &impl Print, book: [usize; SLOTS]) {
     let loaded = book[crate::LOADED + 1];
     let came = night_plan::came(book, night_plan::MAPS, book[crate::FRAME]);
     let left = std::num::wrapping_sub_usize(came, loaded);
     text::say(
+        rt,
         b"
 map files: \x01 delivered, \x01 loaded, \x01 still to load
 ",
@@ -196,12 +211,13 @@ map files: \x01 delivered, \x01 loaded, \x01 still to load
         0,
     );
     text::say(
+        rt,
         b"units refused for want of room (15) and offered again: \x01
 units that came back changed: \x01
 ",
         &book,
         crate::NO_ROOM,
     );
-    losses(book);
-    pages(book);
+    losses(rt, book);
+    pages(rt, book);
 }

@@ -12,24 +12,29 @@ pub struct Heard {
 }
 
 // What a packet brought.
-fn take(book: [usize; SLOTS], answer: Answer, buffer: &[u8]) -> [usize; SLOTS] {
+fn take(rt: &impl Print, book: [usize; SLOTS], answer: Answer, buffer: &[u8]) -> [usize; SLOTS] {
     if let Answer::Delivered { id, length } = answer {
         let id = (id % 4) as usize;
         let at = id * 4096;
-        return night_book::deliver(book, id, list::between(buffer, at, list::plus(at, length)));
+        return night_book::deliver(
+            rt,
+            book,
+            id,
+            list::between(buffer, at, list::plus(at, length)),
+        );
     }
     book
 }
 
 // One packet to the receiver.
-fn hear(n: Heard, packet: &[u8], buffer: &mut [u8]) -> Heard {
+fn hear(rt: &impl Print, n: Heard, packet: &[u8], buffer: &mut [u8]) -> Heard {
     let r = n.r;
     let book = n.book;
     let told = r.step(book[night_plan::P], buffer, packet);
     let answer = told.answer;
     let dropped = told.dropped;
     let book = night_book::drop_bytes(book, dropped);
-    let book = take(book, answer, buffer);
+    let book = take(rt, book, answer, buffer);
     let r = told.next;
     Heard { r, book }
 }
@@ -44,7 +49,7 @@ fn is_lost(book: [usize; SLOTS], packet: usize) -> bool {
 }
 
 // The next packet of the stream: it reaches the receiver, or it is lost.
-fn pass(n: Heard, packet: &[u8], buffer: &mut [u8]) -> Heard {
+fn pass(rt: &impl Print, n: Heard, packet: &[u8], buffer: &mut [u8]) -> Heard {
     let r = n.r;
     let mut book = n.book;
     let number = list::plus(book[night_book::PASSED], 1);
@@ -52,11 +57,11 @@ fn pass(n: Heard, packet: &[u8], buffer: &mut [u8]) -> Heard {
     if is_lost(book, number) {
         return Heard { r, book };
     }
-    hear(Heard { r, book }, packet, buffer)
+    hear(rt, Heard { r, book }, packet, buffer)
 }
 
 // The packets of a frame, in order.
-pub fn hear_all(n: Heard, frame: &[u8], buffer: &mut [u8]) -> Heard {
+pub fn hear_all(rt: &impl Print, n: Heard, frame: &[u8], buffer: &mut [u8]) -> Heard {
     let book = n.book;
     let size = list::plus(book[night_plan::P], 3);
     let mut next = n;
@@ -64,7 +69,7 @@ pub fn hear_all(n: Heard, frame: &[u8], buffer: &mut [u8]) -> Heard {
     let mut left = book[night_plan::N];
     while 0 < left {
         let end = list::plus(at, size);
-        next = pass(next, list::between(frame, at, end), buffer);
+        next = pass(rt, next, list::between(frame, at, end), buffer);
         at = end;
         left -= 1;
     }

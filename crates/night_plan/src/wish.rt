@@ -1,6 +1,7 @@
 // The arguments: the numbers of the plan, in the order of their places. scripts/demo.sh makes them of names, and says what is wrong with
 // one; here what is no number counts as 0, which the sender refuses where it matters.
 use crate::{NUMBERS, SLOTS};
+use std::rt::Env;
 
 // The number that a digit makes of the one before it.
 fn grown(n: usize, x: u8) -> usize {
@@ -25,18 +26,20 @@ fn number_in(s: &[u8]) -> usize {
 }
 
 // A longer argument than six characters is read as none.
-fn argument(i: usize) -> usize {
+fn argument(rt: &impl Env, i: usize) -> usize {
     let mut word = [0u8; 6];
-    let n = os::arg(i, &mut word);
-    number_in(&word[..n])
+    match rt.arg(i, &mut word) {
+        Ok(n) => number_in(&word[..n]),
+        Err(_) => 0,
+    }
 }
 
 // The numbers of the night before its first frame: nothing is counted yet.
-pub fn arguments() -> [usize; SLOTS] {
+pub fn arguments(rt: &impl Env) -> [usize; SLOTS] {
     let mut v = [0usize; SLOTS];
     let mut i: usize = 0;
     while i < NUMBERS {
-        v[i] = argument(i + 1);
+        v[i] = argument(rt, i + 1);
         i += 1;
     }
     v

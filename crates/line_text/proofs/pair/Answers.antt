@@ -2,7 +2,6 @@
 use native.Mathlib.Omega.{arith}
 use Rattle.line_text.proofs.Room.{no_room, placed, fit}
 use Rattle.moves.proofs.Pieces.{puts_then}
-use borrow.Author.Rules.{rules}
 use Rattle.line_text.proofs.pair.Goals as goal
 
 pub returns-then-out-at : goal.returns-then-out-at

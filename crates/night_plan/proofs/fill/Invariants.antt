@@ -1,5 +1,5 @@
 -- What the loop of `fill` keeps, and how it ends. Assumes nothing.
-use Rattle.std.proofs.Common.{◌≡◌, ◌-◌, ◌≤◌, length, rules}
+use Rattle.std.proofs.Common.{◌≡◌, ◌-◌, ◌≤◌, length}
 use Rattle.night_plan.proofs.fill.Given as goal
 
 abbrev pub invariant-loop-i : goal.invariant-loop-i

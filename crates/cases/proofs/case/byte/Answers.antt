@@ -1,5 +1,5 @@
 -- `cases::case::byte` meets its contract. Assumes nothing.
-use Rattle.std.proofs.Common.{sym, rules}
+use Rattle.std.proofs.Common.{sym}
 use lib.ListN.{get_or-eq_default}
 use Rattle.cases.proofs.case.byte.Goals as goal
 

@@ -1,5 +1,5 @@
 -- What the loop of `case.make` keeps, and how it ends. Assumes nothing.
-use Rattle.std.proofs.Common.{◌≡◌, ◌-◌, ◌≤◌, length, rules}
+use Rattle.std.proofs.Common.{◌≡◌, ◌-◌, ◌≤◌, length}
 use Rattle.cases.proofs.case.make.Given as goal
 
 abbrev pub invariant-loop-i : goal.invariant-loop-i

@@ -2,7 +2,6 @@
 use mathlib.Core.Path.{◌≡◌}
 use Prim.Native.Nat.{◌≤◌, ◌-◌}
 use lib.ListN.{length}
-use borrow.Author.Rules.{rules}
 use Rattle.night.proofs.send.load_all.Given as goal
 
 abbrev pub invariant-loop-turn : goal.invariant-loop-turn
