@@ -1,5 +1,7 @@
 // Calls 10 to 15 of docs/CASES.md: descriptions and layouts. Nothing here decides an answer: each function hands what stands in a case to
 // the library, and says what came back.
+#![tactic(auto)]
+
 ghost use Rattle.std.specs.Prelude.{◌≡◌};
 ghost use Rattle.answer_description.specs.Values.{lengths_in, description_in};
 

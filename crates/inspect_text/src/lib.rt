@@ -1,5 +1,7 @@
 // The lines that the program `inspect` prints (01, "Clock and recordings"): of a packet, of a refusal, and of a break in the
 // succession. Each goes to the front of the lent buffer, and the answer is its length.
+#![tactic(auto)]
+
 ghost use Rattle.std.specs.Prelude.{◌≡◌, ◌+◌, ◌≤◌, ◌<◌, length};
 ghost use Rattle.moves.specs.Moves.{Puts};
 ghost use Rattle.inspect_text.specs.Inspect.{length_text, lengths_text, streams_text, mode_text, content_text, head_text, refused_text, Line};

@@ -12,6 +12,7 @@ use lib.Seq.{take_all, length-take-le}
 use Rattle.laws.specs.Written.{written}
 use Rattle.laws.proofs.Refuse.{free}
 use Rattle.laws.proofs.Written.{written_length}
+use Rattle.io.specs.Counts.{IsPrefixLen}
 use Rattle.moves.specs.Moves.{Puts}
 use Rattle.moves.proofs.Pieces.{puts_same}
 use Rattle.description.specs.declared.Description.{Description}
@@ -97,7 +98,7 @@ done s v d e n c r x p q z k f g h t =
     rw (← q, z) (u.end ∙ zero-add (length (lines_of (capacity_in s) (parts_of (described_in s)) (padding_of (capacity_in s) (described_in s)))), u.text)
 
 -- the answer counts bytes of the buffer
-pub counted : (d e xs : List ℕ) (r : ℕ) → length d ≡ 1024 → r ≤ 1024 → r ≡ length xs → e ≡ written d 0 xs → (r ≤ length e) × (r ≡ length (take r e))
+pub counted : (d e xs : List ℕ) (r : ℕ) → length d ≡ 1024 → r ≤ 1024 → r ≡ length xs → e ≡ written d 0 xs → IsPrefixLen r e
 counted d e xs r m h p q =
     let n : length (written d 0 xs) ≡ length d = written_length d 0 xs (omega arith) in
     let k : length e ≡ length d = ap length q ∙ n in

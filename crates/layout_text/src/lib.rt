@@ -3,6 +3,7 @@
 
 ghost use Rattle.std.specs.Prelude.{◌≡◌, ◌++◌, ◌+◌, ◌≤◌, length, take, drop};
 ghost use Rattle.laws.specs.Written.{written};
+ghost use Rattle.io.specs.Counts.{IsPrefixLen};
 ghost use Rattle.moves.specs.Moves.{Puts};
 ghost use Rattle.line_text.specs.Decimal.{decimal};
 ghost use Rattle.layout_text.specs.Text.{line_of, part_lines, padding, lines_of, capacity_in, number_for, text_of};
@@ -106,7 +107,7 @@ fn number_of(input: &[u8]) -> u32
 pub fn text(input: &[u8], out: &mut [u8; 1024]) -> usize
     ensures answer { result ≡ length (text_of input.now) }
     ensures memory { out.new ≡ written out.old 0 (text_of input.now) }
-    ensures room { (result ≤ length out.new) × (result ≡ length (take result out.new)) }
+    ensures room { IsPrefixLen result out.new }
 {
     let number = number_of(input);
     if number != 0 {

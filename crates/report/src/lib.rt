@@ -1,5 +1,7 @@
 // What the program `inspect` prints of a recording (01, "Clock and recordings"): a line a packet, a line at each break in the succession,
 // and a summary. The recording comes in by blocks of any length; what is printed does not depend on them (proofs/Prints.antt).
+#![tactic(auto)]
+
 ghost use Rattle.std.specs.Prelude.{◌≡◌, length};
 ghost use Rattle.laws.specs.Written.{written};
 ghost use Rattle.mdi.specs.Reading.{read_for};

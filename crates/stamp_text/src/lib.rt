@@ -1,4 +1,6 @@
 // A timestamp as the program `inspect` prints it, with its date in UTC (01, "Clock and recordings").
+#![tactic(auto)]
+
 ghost use Rattle.std.specs.Prelude.{◌≡◌, ◌+◌, ◌-◌, ◌%◌, ◌≤◌, length};
 ghost use Rattle.moves.specs.Moves.{Puts};
 ghost use Rattle.line_text.specs.Line.{Placed};

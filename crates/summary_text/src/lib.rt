@@ -1,5 +1,7 @@
 // The summary that the program `inspect` prints at the end of the walk (01, "Clock and recordings"). It goes to the front of the lent buffer,
 // and the answer is its length. A crate of its own for the time of a check: with inspect_text it takes 43 s.
+#![tactic(auto)]
+
 ghost use Rattle.std.specs.Prelude.{◌+◌, ◌≤◌, length, take, drop};
 ghost use Rattle.moves.specs.Moves.{Puts};
 ghost use Rattle.summary_text.specs.Summary.{times_text, numbers_text, when_text, whens_text, Summary};

@@ -1,0 +1,16 @@
+-- `stamp_text::put_time` meets its contract. Assumes nothing.
+use native.Mathlib.Omega.{arith}
+use Rattle.stamp_text.proofs.Ways.{time_none, time_given}
+use Rattle.line_text.proofs.Room.{fit}
+use borrow.Author.Rules.{rules}
+use Rattle.stamp_text.proofs.put_time.Goals as goal
+
+pub returns-in-Absent : goal.returns-in-Absent
+returns-in-Absent c =
+    let p0 = fit (omega arith) c.word.ensures.1 in
+    (omega arith, time_none _ _ (search rules) p0)
+
+pub returns-in-Given : goal.returns-in-Given
+returns-in-Given c =
+    let p0 = c.put_stamp.ensures.1 in
+    (omega arith, time_given _ _ _ (search rules) p0)
