@@ -52,7 +52,7 @@ prove() {
 ) &
 display=$!
 trap 'exit 130' INT TERM
-trap 'kill "$display" 2>/dev/null; rm -rf "$room"' EXIT
+trap 'kill "$display" 2>/dev/null || :; rm -rf "$room"' EXIT
 # capacity 04 B0, then the sdci value: two protection levels, and the part A and part B lengths of three streams
 printf '\004\260\001\000\004\121\003\260\000\001\060\000' >"$room/frame"
 prove layout <"$room/frame"
