@@ -6,24 +6,18 @@
 # 2: it could not be counted.
 set -eu
 here=$(cd "$(dirname "$0")" && pwd -P)
-root=$(dirname "$here")
-out=$root/target/bench
+ROOT=$(dirname "$here")
+out=$ROOT/target/bench
 
 cannot() {
     echo "count.sh: $*" >&2
     exit 2
 }
 
-command -v rt >/dev/null 2>&1 || cannot "rt is not on the path."
-KIT=$(dirname "$(dirname "$(rt doc)")")
-# The archives are for x86-64 on every machine: on Arm a cross compiler makes the bench, and the kit's emulator runs it.
-case $(uname -m) in
-x86_64) cc=gcc run='' emulator=$(command -v qemu-x86_64 || :) ;;
-aarch64) cc=x86_64-linux-gnu-gcc emulator=$KIT/on/aarch64/toolchain/bin/qemu-x86_64 run=$emulator ;;
-*) cannot "there is no kit for $(uname -m)." ;;
-esac
-command -v "$cc" >/dev/null 2>&1 || cannot "$cc is not installed: the plain C is compiled by it."
-if [ -z "$run" ] && command -v valgrind >/dev/null 2>&1; then
+. "$ROOT/scripts/kit.sh"
+command -v gcc >/dev/null 2>&1 || cannot "gcc is not installed: the plain C is compiled by it."
+emulator=$(command -v qemu-x86_64 || :)
+if command -v valgrind >/dev/null 2>&1; then
     counter=valgrind
 elif [ -x "$emulator" ]; then
     # one line of log for each instruction, some 0.7 million a second
@@ -35,7 +29,7 @@ else
 fi
 
 bench() { # ARGS..
-    ${run:+"$run"} "$out/bench" "$@"
+    "$out/bench" "$@"
 }
 
 instructions() { # ARGS..: of a whole run of bench
@@ -69,16 +63,16 @@ count() { # ROW: sets rattle and plain, the instructions of one call, or what th
 mkdir -p "$out"
 : >"$out/log"
 for crate in meter host; do
-    (cd "$root" && rt staticlib "$crate") >>"$out/log" 2>&1 || cannot "rt staticlib $crate failed: see target/bench/log."
+    build_archive "$crate" >>"$out/log" 2>&1 || cannot "crates/$crate is not proved or not built: see target/bench/log."
 done
-"$cc" -O2 -Wall -Wextra -Werror -static -o "$out/bench" "$here"/*.c "$root/target/staticlib/libmeter.a" "$root/target/staticlib/libhost.a" ||
+gcc -O2 -Wall -Wextra -Werror -static -o "$out/bench" "$here"/*.c "$(archive_of meter)" "$(archive_of host)" ||
     cannot "the bench does not compile."
 
 rows=$(bench list) || cannot "the bench does not run."
 calls=${*:-$(echo "$rows" | sed 's/ .*//; /_state$/d')}
 status=0
 # E6 of 02: dispersal has no table, neither one of its own nor one that the compiler made. Its code then names no place but its own.
-places=$("${cc%gcc}objdump" -r -j .text.keshgurvat_disperse "$root/target/staticlib/libhost.a") || cannot "no sections of libhost.a by objdump."
+places=$(objdump -r -j .text.keshgurvat_disperse "$(archive_of host)") || cannot "no sections of libhost.a by objdump."
 if echo "$places" | grep -q R_X86_64; then
     echo "disperse: its code reads stored data"
     status=1

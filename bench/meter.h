@@ -1,4 +1,4 @@
-/* What target/staticlib/libmeter.a exports (crates/meter). A slice is handed over as pointer and length. */
+/* What crates/meter/out/libmeter.a exports. A slice is handed over as pointer and length. */
 #ifndef METER_H
 #define METER_H
 #include <stddef.h>

@@ -8,67 +8,64 @@ ROOT=$(cd "$(dirname "$0")/.." && pwd -P)
 cd "$ROOT"
 . "$ROOT/scripts/kit.sh"
 . "$ROOT/scripts/progress.sh"
-programs='layout night'
 # the numbers of the night; a wrong wish ends the run before anything is proved
 numbers=$(WISHES="$*" awk -f scripts/night.awk crates/night/args) || {
     echo "$numbers" >&2
     exit 2
 }
-log=target/demo.log
+log=$ROOT/target/demo.log
 mkdir -p target
-rm -f target/demo.status
-
-# line NUMBER: about the crate that rt proves as its NUMBERth
-line() {
-    printf 'proving %d of %d, %s, %s' "$1" "$total" "$(printf '%s\n' "$crates" | sed -n "$1p")" "$(minutes $(($(date +%s) - began)))"
-}
-
-# show: how far rt is. On a terminal one line, about the crate in hand; elsewhere a line for each crate that was proved since the last look.
-show() {
-    done=$(grep -c ' proved (' "$log") || done=0
-    if [ -t 1 ]; then
-        [ "$done" -ge "$total" ] || printf '\r%s\033[K' "$(line $((done + 1)))"
-        return
-    fi
-    while [ "$seen" -lt "$done" ]; do
-        seen=$((seen + 1))
-        # what has not changed since it was proved takes no time, and no line
-        grep ' proved (' "$log" | sed -n "${seen}p" | grep -q ' proved (unchanged' || { line "$seen" && echo; }
-    done
-}
-
-# shellcheck disable=SC2086
-crates=$(plan $programs)
+room=$(mktemp -d)
+crates=$(plan layout night)
 total=$(printf '%s\n' "$crates" | wc -l)
-began=$(date +%s) seen=0
+began=$(date +%s)
+
+# show: which crate rt is at. On a terminal one line, which the next takes the place of; elsewhere a line for each crate. What is proved already
+# is not named.
+show() {
+    now=$(sed -n 's/^rt: chose --jobs [0-9]* for //p' "$log" | tail -n 1)
+    [ -n "$now" ] && [ "$now" != "$shown" ] || [ -t 1 ] || return 0
+    shown=$now
+    [ -n "$now" ] || return 0
+    said="proving $(printf '%s\n' "$crates" | grep -n -x "$now" | cut -d: -f1) of $total, $now, $(minutes $(($(date +%s) - began)))"
+    if [ -t 1 ]; then printf '\r%s\033[K' "$said"; else echo "$said"; fi
+}
+
+# prove NAME ARGS..: proves the program, and runs it with these arguments into a file of its name. Its standard input is this call's.
+prove() {
+    name=$1
+    shift
+    (cd "crates/$name" && rt run -- "$@") >"$room/$name" 2>>"$log" && return
+    [ ! -t 1 ] || printf '\r\033[K'
+    echo "The program $name is not proved; $log says why." >&2
+    exit 1
+}
+
 : >"$log"
 (
-    while [ ! -e target/demo.status ]; do
+    shown=
+    while [ ! -e "$room/ended" ]; do
         show
         sleep 1
     done
     show
 ) &
 display=$!
-trap 'kill "$display" 2>/dev/null; exit 130' INT TERM
-status=0
-# up to five crates stand side by side in a level here: two jobs more make one batch of each
+trap 'exit 130' INT TERM
+trap 'kill "$display" 2>/dev/null || :; rm -rf "$room"' EXIT
+# capacity 04 B0, then the sdci value: two protection levels, and the part A and part B lengths of three streams
+printf '\004\260\001\000\004\121\003\260\000\001\060\000' >"$room/frame"
+prove layout <"$room/frame"
 # shellcheck disable=SC2086
-RT_JOBS=${RT_JOBS:-$(($(jobs_for_cores) + 2))} rt check $programs >"$log" 2>&1 || status=$?
-echo "$status" >target/demo.status
+prove night $numbers </dev/null
+: >"$room/ended"
 wait "$display"
 [ ! -t 1 ] || printf '\r\033[K'
-if [ "$status" -ne 0 ]; then
-    echo "The programs $programs are not proved; $log says why." >&2
-    exit 1
-fi
 echo "The frame of ES 201 980, annex C:"
 echo
-# capacity 04 B0, then the sdci value: two protection levels, and the part A and part B lengths of three streams
-printf '\004\260\001\000\004\121\003\260\000\001\060\000' | run_program layout
+cat "$room/layout"
 echo
-# shellcheck disable=SC2086
-run_program night $numbers
+cat "$room/night"
 case " $*" in
 *' '[Ll][Oo][Ss][Ee]=*) ;;
 *)

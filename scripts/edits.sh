@@ -1,9 +1,11 @@
 #!/bin/sh
-# edits.sh: reads the log of each must-fail edit that rt tried, and names those that show nothing (scripts/refused.sh). Of the edits of wrong/,
-# which only make wrong tries, it names those that no longer fit the sources. Status 1 if there is any.
+# edits.sh [LOG]: names the must-fail edits that show nothing, by what rt ci said of each in LOG (target/test.log, where the last make test left
+# it, if not named), and the edits of must-fail/ and wrong/ that no longer fit the sources; those of wrong/ only make wrong tries. Status 1 if
+# there is any.
 set -u
 cd "$(dirname "$0")/.." || exit 2
 . scripts/refused.sh
+log=${1:-target/test.log}
 room=$(mktemp -d) || exit 2
 trap 'rm -rf "$room"' EXIT
 status=0
@@ -14,22 +16,29 @@ fault() {
     status=1
 }
 
+[ -f "$log" ] || {
+    echo "edits: there is no $log: rt ci has not run"
+    exit 1
+}
 for edit in crates/*/must-fail/*.edit; do
     [ -f "$edit" ] || continue
     crate=${edit#crates/}
     crate=${crate%%/*}
-    log=target/must-fail/$crate/$(basename "$edit" .edit)/.log
-    if [ ! -f "$log" ]; then
-        fault "$edit" "rt left no log of it"
-    elif why=$(shows_nothing "$log"); then
-        fault "$edit" "$why"
-    fi
+    if why=$(shows_nothing "$(said_of "$log" "$crate" "$(basename "$edit")")"); then fault "$edit" "$why"; fi
 done
 
-for edit in crates/*/wrong/*.edit; do
+at=
+for edit in crates/*/must-fail/*.edit crates/*/wrong/*.edit; do
     [ -f "$edit" ] || continue
-    rm -rf "$room/crate"
-    cp -R "${edit%/wrong/*}" "$room/crate"
-    why=$(apply_edit "$room/crate" "$edit") || fault "$edit" "$why"
+    crate=${edit%/*/*}
+    [ "$crate" = "$at" ] || {
+        rm -rf "$room/whole" && mkdir "$room/whole"
+        for part in src specs proofs; do
+            [ ! -d "$crate/$part" ] || cp -R "$crate/$part" "$room/whole/"
+        done
+        at=$crate
+    }
+    rm -rf "$room/crate" && cp -R "$room/whole" "$room/crate"
+    why=$(apply_edit "$room/crate" "$edit") || fault "$edit" "does not fit: $why"
 done
 exit $status

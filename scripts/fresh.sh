@@ -11,8 +11,8 @@ passed=0 failed=0
 # compare ROOM NAME FIRST LAST: the report, whose last line has the counts; ROOM is for its files
 compare() {
     mkdir -p "$1"
-    if [ ! -x "$ROOT/target/bin/$2" ]; then
-        echo "fresh: target/bin/$2 is not there: it is not proved"
+    if [ ! -x "$(program "$2")" ]; then
+        echo "fresh: crates/$2/out/$2 is not there: rt ci, or rt run, has not proved it"
     elif ! "$REFERENCE" generate "$seed" "$count" "$3" "$4" >"$1/cases"; then
         echo "fresh: the cases $3 to $4 of $2 could not be made"
     elif ! run_program "$2" <"$1/cases" >"$1/answers"; then

@@ -1,6 +1,6 @@
 #!/bin/sh
-# host.sh [SEED]: the C host. Builds the archive from the proved crate host, compiles host/ with the kit's own compiler, which needs no
-# package, and runs the comparison and the example; then the same by a gcc for x86-64 where there is one; then from an installed copy.
+# host.sh [SEED]: the C host. Builds the archive of the proved crate host, compiles host/ with the kit's own compiler, which needs no package, and
+# runs the comparison and the example; then the same by gcc where there is one; then from an installed copy.
 # The last line is 'N passed, M failed'; status 0 only where M is 0.
 set -u
 ROOT=$(cd "$(dirname "$0")/.." && pwd -P)
@@ -8,7 +8,7 @@ cd "$ROOT" || exit 2
 seed=${1:-1}
 passed=0 failed=0
 . "$ROOT/scripts/kit.sh"
-out=$ROOT/target/host archive=$ROOT/target/staticlib/libhost.a
+out=$ROOT/target/host archive=$(archive_of host)
 mkdir -p "$out"
 
 finish() {
@@ -64,7 +64,7 @@ kit_cc() {
 kit_link() {
     program=$1
     shift
-    "$KIT/on/$(uname -m)/bin/rattle-link" --target x86_64-unknown-linux-gnu --toolchain "$TOOLS" -o "$program" "$@"
+    "$KIT/bin/rattle-link" --target x86_64-unknown-linux-gnu --toolchain "$TOOLS" -o "$program" "$@"
 }
 
 kit_build() {
@@ -79,30 +79,29 @@ kit_header() {
     echo '#include "keshgurvat.h"' | kit_cc -Ihost -x "$1" "-std=$2" -fsyntax-only -
 }
 
-step "the archive, proved" rt staticlib host || finish
+step "the archive, proved" build_archive host || finish
 for kind in 'c c99' 'c c11' 'c++ c++11' 'c++ c++17'; do
     # shellcheck disable=SC2086
     step "the header as ${kind#* }" kit_header $kind
 done
 if step "the kit's compiler" kit_build; then
-    counts "comparison, kit" run_file "$out/test" "$seed" && sed '$d' "$out/log"
-    step "example, kit" run_file "$out/example" && cat "$out/log"
+    counts "comparison, kit" "$out/test" "$seed" && sed '$d' "$out/log"
+    step "example, kit" "$out/example" && cat "$out/log"
 fi
 
-# a second compiler; statically linked, its programs need no other x86-64 library
-case $(uname -m) in x86_64) gcc=gcc ;; *) gcc=x86_64-linux-gnu-gcc ;; esac
+# a second compiler
+gcc=$(command -v gcc) || gcc=
 gcc_build() { # PROGRAM FILES.., in C99
     program=$1
     shift
     # shellcheck disable=SC2086
-    "$gcc" -std=c99 $strict -static -o "$program" "$@"
+    gcc -std=c99 $strict -static -o "$program" "$@"
 }
-if command -v "$gcc" >/dev/null 2>&1; then
-    step "$gcc" gcc_build "$out/test.gcc" host/test.c host/model.c "$archive" && counts "comparison, $gcc" $EMULATOR "$out/test.gcc" "$seed"
-    step "$gcc, example" gcc_build "$out/example.gcc" host/example.c "$archive" && step "example, $gcc" $EMULATOR "$out/example.gcc"
+if [ -n "$gcc" ]; then
+    step "gcc" gcc_build "$out/test.gcc" host/test.c host/model.c "$archive" && counts "comparison, gcc" "$out/test.gcc" "$seed"
+    step "gcc, example" gcc_build "$out/example.gcc" host/example.c "$archive" && step "example, gcc" "$out/example.gcc"
 else
-    echo "There is no $gcc here, so no second compiler was tried."
-    gcc=
+    echo "There is no gcc here, so no second compiler was tried."
 fi
 
 # from an installed copy, with the flags of its pkg-config file alone
@@ -114,10 +113,10 @@ from_installed() {
     cp host/example.c "$out/installed.c" || return
     # shellcheck disable=SC2046
     if [ -n "$gcc" ]; then
-        "$gcc" -O2 $(flags Cflags) "$out/installed.c" $(flags Libs) -static -o "$out/installed" && $EMULATOR "$out/installed" 100
+        gcc -O2 $(flags Cflags) "$out/installed.c" $(flags Libs) -static -o "$out/installed" && "$out/installed" 100
     else
         kit_cc $(flags Cflags) -c "$out/installed.c" -o "$out/installed.o" &&
-            kit_link "$out/installed" "$out/installed.o" "$prefix/lib/libkeshgurvat.a" && run_file "$out/installed" 100
+            kit_link "$out/installed" "$out/installed.o" "$prefix/lib/libkeshgurvat.a" && "$out/installed" 100
     fi
 }
 rm -rf "$prefix"

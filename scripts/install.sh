@@ -13,9 +13,9 @@ case $prefix in
 esac
 if [ -z "$archive" ]; then
     . "$ROOT/scripts/kit.sh"
-    archive=$ROOT/target/staticlib/libhost.a
+    archive=$(archive_of host)
     mkdir -p "$ROOT/target"
-    (cd "$ROOT" && rt staticlib host) >"$ROOT/target/install.log" 2>&1 || {
+    build_archive host >"$ROOT/target/install.log" 2>&1 || {
         echo "The library is not proved; target/install.log says why. Nothing is installed." >&2
         exit 1
     }

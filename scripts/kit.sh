@@ -9,28 +9,26 @@ need() {
 }
 
 need rt "to prove and to run the crates (the Rattle kit)"
-KIT=$(dirname "$(dirname "$(rt doc)")")
-TOOLS=$KIT/on/$(uname -m)/toolchain
+KIT=$(dirname "$(rt doc)")
+TOOLS=$KIT/toolchain
 if [ ! -d "$TOOLS" ]; then
-    echo "The Rattle kit has no toolchain for this machine, $(uname -m)." >&2
+    echo "The Rattle kit in $KIT has no toolchain." >&2
     exit 2
 fi
 
-# the archives and programs are x86-64 code; on another processor the kit has an emulator beside its compiler
-EMULATOR=$TOOLS/bin/qemu-x86_64
-[ -x "$EMULATOR" ] || EMULATOR=
+# program NAME: where rt leaves the executable of a program of this repository that it proved
+program() { echo "$ROOT/crates/$1/out/$1"; }
 
-# run_file FILE ARGS..: a program that the kit linked, with the kit's C library
-run_file() {
-    $EMULATOR "$TOOLS/lib/ld-linux-x86-64.so.2" --library-path "$TOOLS/lib" "$@"
-}
-
-# run_program NAME ARGS..: a program of this repository
+# run_program NAME ARGS..: such a program
 run_program() {
-    program=$ROOT/target/bin/$1
+    executable=$(program "$1")
     shift
-    run_file "$program" "$@"
+    "$executable" "$@"
 }
+
+# archive_of NAME: where rt leaves what C links of the crate NAME, a static library; build_archive NAME: proves and builds it
+archive_of() { echo "$ROOT/crates/$1/out/lib$1.a"; }
+build_archive() { (cd "$ROOT/crates/$1" && rt lib); }
 
 # build_reference: the second program, from source, with no network
 build_reference() {

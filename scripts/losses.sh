@@ -7,6 +7,10 @@ ROOT=$(cd "$(dirname "$0")/.." && pwd -P)
 cd "$ROOT"
 . "$ROOT/scripts/kit.sh"
 status=0
+[ -x "$(program night)" ] || {
+    echo "losses: crates/night/out/night is not there: rt ci, or rt run, has not proved it"
+    exit 1
+}
 while read -r lose packets units dropped pages; do
     # shellcheck disable=SC2046
     text=$(run_program night $(WISHES="lose=$lose" awk -f scripts/night.awk crates/night/args))

@@ -130,26 +130,41 @@ reading && (/^ *\{ *$/ || (/\{ *$/ && !/^ *ensures/)) {
     judge()
 }
 
-# ---- terms: tokens between spaces and parentheses. In a promise `now (x .entry)` is x, `now (x .exit)` is @x and the answer is @answer; in a theorem
-# a variable with the numbers behind it, `i .0`, is one token. A name loses the module before it, and parentheses around one token go.
+# ---- terms: tokens between spaces and parentheses. In a promise `x.now` and `x.old` are x, `x.new` is @x and `result` is @answer; in a theorem a
+# variable with the numbers behind it, `i.0`, is one token. A field, `.walk`, is a token behind the one that it is of. A name loses the module
+# before it, and parentheses around one token go.
 
-# tokens of text into term[1..]; the number of them. What each stands for is handed over in `variable` and `answer`
-function tokens(text, answer,    n, i, k, word, changed) {
+# tokens of text into term[1..]; the number of them. `from` says what the text is of: "promise", "theorem", or "binders" where no variable is known yet
+function tokens(text, from,    n, i, k, word, parts, part, j, changed) {
     gsub(/[()]/, " & ", text)
     n = split(text, word, " ")
     k = 0
     split("", term)
     for (i = 1; i <= n; i++) {
-        if (word[i] == "now" && word[i + 1] == "(" && word[i + 3] ~ /^\.(entry|exit)$/ && word[i + 4] == ")") {
-            term[++k] = (word[i + 3] == ".exit" ? "@" : "") word[i + 2]
-            i += 4
-        } else if (word[i] == "now") continue
-        else if (word[i] == answer) term[++k] = "@answer"
-        else if (k > 0 && word[i] ~ /^\.[0-9]+$/ && is_variable(term[k])) term[k] = term[k] word[i]
-        else {
-            sub(/^[a-z]+\./, "", word[i])
+        # one that is no name with parts behind it: an operator, a number, the point behind the names of a λ
+        if (from == "binders" || word[i] !~ /^[A-Za-z_.][A-Za-z_0-9\047]*(\.[A-Za-z_0-9\047]+)*$/ || word[i] == ".") {
             term[++k] = word[i]
+            continue
         }
+        parts = split(word[i], part, ".")
+        j = 1
+        # a field behind a parenthesis has no name before its point
+        if (part[1] == "") ;
+        else if (from == "promise" && part[1] in place_named) {
+            term[++k] = part[1] == "result" ? "@answer" : part[1]
+            if (parts > 1 && part[2] ~ /^(now|old|new)$/) {
+                if (part[2] == "new") term[k] = "@" term[k]
+                j = 2
+            }
+        } else if (from == "theorem" && part[1] in variable) {
+            term[++k] = part[1]
+            while (j < parts && part[j + 1] ~ /^[0-9]+$/) term[k] = term[k] "." part[++j]
+        } else {
+            # the modules before a name, as in queues.packets
+            term[++k] = part[parts]
+            j = parts
+        }
+        while (j < parts) term[++k] = "." part[++j]
     }
     do {
         changed = 0
@@ -203,17 +218,14 @@ function split_parts(from, to,    i, depth, last, arrow) {
 }
 
 # the promise: promise[1..promises]
-function read_promise(    i, n, text, answer) {
+function read_promise(    i, n, text) {
     PARTS = ""
     split("", variable)
     for (i = 1; i <= clauses; i++) {
         text = clause[i]
-        answer = text
-        sub(/^[^{]*\{ *λ */, "", answer)
-        sub(/\..*/, "", answer)
-        sub(/^.*⌜ */, "", text)
-        sub(/ *⌝.*/, "", text)
-        n = tokens(text, answer)
+        sub(/^ *ensures *[a-z_0-9]* *\{ */, "", text)
+        sub(/ *\} *$/, "", text)
+        n = tokens(text, "promise")
         split_parts(1, n)
     }
     promises = split(PARTS, promise, "\n") - 1
@@ -224,7 +236,7 @@ function read_theorem(text,    n, i, k, colon) {
     split("", variable)
     outcome = ""
     laws = 0
-    n = tokens(text, "")
+    n = tokens(text, "binders")
     for (i = 1; i <= n && term[i] != "Settles"; i++) if (term[i] == "(") i = bind(i, n)
     if (term[i] != "Settles") return 0
     if (term[i + 1] != "(") {
@@ -237,7 +249,7 @@ function read_theorem(text,    n, i, k, colon) {
     for (i += 3; i < k && term[i] != "."; i++) if (term[i] == "(") i = bind(i, k)
     text = ""
     for (i++; i < k; i++) text = text " " term[i]
-    n = tokens(text, "")
+    n = tokens(text, "theorem")
     PARTS = ""
     split_parts(1, n)
     laws = split(PARTS, law, "\n") - 1
@@ -343,12 +355,15 @@ function judge(    name, params, n, i, word, at, lent, places) {
     sub(/^[^(]*\(/, "", params)
     at = crate_of(file) " " name
     places = 0
+    split("", place_named)
+    place_named["result"] = place_named["self"] = 1
     n = split(params, word, /[,()]/)
     for (i = 1; i <= n; i++) {
         if (word[i] !~ /^ *[a-z_0-9]+:/) continue
         lent = word[i]
         sub(/:.*/, "", lent)
         gsub(/ /, "", lent)
+        place_named[lent] = 1
         if (word[i] ~ /&(\047[a-z]+ )?mut /) place_of[++places] = lent
     }
     seen[at] = 1

@@ -14,7 +14,7 @@
 set -u
 cd "$(dirname "$0")/.." || exit 2
 sources=
-for crate in $(sed -n 's/^\([a-z_0-9]*\):.*/\1/p' crates.txt); do
+for crate in $(sed -n 's/^\([a-z_0-9]*\)[^#:]*:.*/\1/p' crates.txt); do
     [ -f "crates/$crate/src/lib.rt" ] && sources="$sources $(find "crates/$crate/src" -name '*.rt' | sort)"
 done
 # shellcheck disable=SC2046,SC2086

@@ -1,4 +1,4 @@
-# Sourced by edits.sh and wrong.sh (POSIX sh): how an edit is applied, and what the log of a refused edit shows.
+# Sourced by edits.sh and wrong.sh (POSIX sh): how an edit is applied, and what rt's line about a refused edit shows.
 
 # replace FILE OLD NEW: puts NEW in the place of OLD, which must stand in the file exactly once
 replace() {
@@ -45,18 +45,24 @@ apply_edit() {
     [ "$pairs" -gt 0 ] || { echo "it has no 'old:' and 'new:' pair"; return 1; }
 }
 
-# first_error LOG: what was refused first; a function that has no proof file is refused by naming the fact that the search does not find
-first_error() { grep -m 1 -e 'error' -e 'does not close' "$1"; }
+# said_of LOG CRATE FILE: what rt said of that edit, from 'refused, as it must be' on; nothing where it did not try it
+said_of() {
+    LABEL="rt: must-fail $2/$3: " awk 'index($0, ENVIRON["LABEL"]) == 1 { print substr($0, length(ENVIRON["LABEL"]) + 1); exit }' "$1"
+}
 
-# shows_nothing LOG: an edit is worth something only where it is refused because a fact no longer holds. Prints why this one shows nothing;
-# status 1 where it does show something.
+# shows_nothing WORDS: an edit is worth something only where it is refused because a fact no longer holds. Prints why this one, of which rt said
+# these words, shows nothing; status 1 where it does show something.
 shows_nothing() {
-    first=$(first_error "$1")
-    case $first in
-    '') echo "its log does not say what was refused" ;;
-    *'has no `Need-'* | *'has no `Tie`'* | *'has no field'*)
-        echo "shows nothing: the proof file no longer fits the edited code ($(printf '%s' "$first" | cut -c1-200))"
+    case $1 in
+    '') echo "rt did not try it" ;;
+    'refused, as it must be') echo "rt does not say what was refused" ;;
+    'refused, as it must be (only because a proof file names '* | \
+        'refused, as it must be: '*'has no `'* | 'refused, as it must be: '*'has no field'* | \
+        'refused, as it must be: '*'is not in scope'* | 'refused, as it must be: '*'was not admitted'*)
+        echo "shows nothing: the proof file no longer fits the edited code ($(printf '%s' "$1" | cut -c1-300))"
         ;;
-    *) return 1 ;;
+    'refused, as it must be (only by a limit '*) echo "shows nothing: the prover gave no verdict ($(printf '%s' "$1" | cut -c1-300))" ;;
+    'refused, as it must be: '*) return 1 ;;
+    *) printf '%s\n' "$1" ;;
     esac
 }

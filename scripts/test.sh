@@ -1,8 +1,8 @@
 #!/bin/sh
 # test.sh COUNT [SEED]: the test command. Ends in exactly one last line 'N passed, M failed'; status 0 only where M is 0.
-# N counts the layout check, each public call held against its promise, rt's passes, the reading of the edits and of their logs, the wishes
-# and the losses of a night, the tests of the second program, each case of the fresh set, and each comparison of the C host. Before that line stands where
-# the time went; no limit in it fails the test.
+# N counts each public call held against its promise, rt's passes, the reading of the edits and of what rt says of them, the wishes and the losses of
+# a night, the tests of the second program, each case of the fresh set, and each comparison of the C host. Before that line stands where the time
+# went; no limit in it fails the test.
 set -u
 ROOT=$(cd "$(dirname "$0")/.." && pwd -P)
 cd "$ROOT" || exit 2
@@ -91,10 +91,9 @@ counted() {
 }
 
 [ -n "$seed" ] || seed=$(od -An -N4 -tu4 /dev/urandom | tr -d ' ')
-whole "layout of the sources" rt fmt --check
 counted "promises, held against docs/PROMISES.md" sh scripts/promises.sh
 counted "proofs, must-fail edits, programs" sh scripts/proofs.sh "$room"
-whole "what the edits show" sh scripts/edits.sh
+whole "what the edits show" sh scripts/edits.sh "$room/said"
 whole "what a night may be wished" sh scripts/wishes.sh
 whole "a night with packets lost on the way" sh scripts/losses.sh
 counted "the second program's own tests" sh scripts/unit.sh
@@ -104,5 +103,4 @@ counted "the C host" sh scripts/host.sh "$seed"
 
 echo "== where the time went"
 while read -r seconds what; do echo "$(minutes "$seconds"): $what"; done <"$room/times"
-cat "$room/slowest" 2>/dev/null
 finish
