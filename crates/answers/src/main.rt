@@ -1,6 +1,9 @@
 // Answers cases on standard input through the library, in the framing of docs/CASES.md. The second program, in reference/, answers the
 // same cases from the documents alone, and the two are compared. Nothing here decides an answer: each group of calls is a library answer_*.
+#![tactic(auto)]
+
 use cases::{case, input};
+use std::io::Read;
 
 // The answer to one case, at the front of out. What is no call of docs/CASES.md is none of the simple ones either, and answered so.
 fn answer_to(call: u8, body: &[u8], out: &mut [u8]) -> usize {
@@ -15,26 +18,31 @@ fn answer_to(call: u8, body: &[u8], out: &mut [u8]) -> usize {
 }
 
 // Reads a case and writes its answer. False where no further case can be read.
-fn answer_next(body: &mut [u8], out: &mut [u8]) -> bool {
-    let next = input::next(body);
+fn answer_next(rt: &impl Print, source: &mut impl Read, body: &mut [u8], out: &mut [u8]) -> bool {
+    let next = input::next(source, body);
     if next.ended {
         return false;
     }
     let n = answer_to(next.call, case::front(body, next.size), out);
-    io::write_all(1, case::front(out, n)) & next.whole
+    rt.write_all(case::front(out, n)).is_ok() & next.whole
 }
 
 // A proved loop has to end, and nothing says that the input does. So the loop counts its turns down, from a number that no run uses up.
 // It takes arrays, and not slices: a proof need not count their bytes.
-fn answer_all(body: &mut [u8; 524288], out: &mut [u8; 4096]) {
+fn answer_all(
+    rt: &impl Print,
+    source: &mut impl Read,
+    body: &mut [u8; 524288],
+    out: &mut [u8; 4096],
+) {
     let mut turns = u64::MAX;
-    while turns > 0 && answer_next(body, out) {
+    while turns > 0 && answer_next(rt, source, body, out) {
         turns -= 1;
     }
 }
 
-fn main() {
+fn main(rt: HostRuntime) {
     let mut body = [0u8; case::BODY];
     let mut out = [0u8; case::ANSWER];
-    answer_all(&mut body, &mut out);
+    answer_all(&rt, &mut rt.stdin(), &mut body, &mut out);
 }

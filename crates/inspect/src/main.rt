@@ -3,8 +3,14 @@
 // what is printed. Proved of it: it is safe, it ends, and each call of `report` answers as that promises; and a run of those calls over all
 // blocks gives one text for a file, wherever the blocks end (`prints` in crates/report/proofs/Prints.antt). Not proved, but read here and
 // tried on recordings: that these loops make that run, each block handed over until all of it is taken, and print what each call gives.
-use libc::STDOUT_FILENO;
+#![tactic(auto)]
+
 use report::Report;
+use std::env::FillError;
+use std::fs::File;
+use std::io;
+use std::io::Read;
+use std::rt::{Env, Files};
 
 // The longest entry, of which `report` holds the bytes.
 const ENTRY: usize = 65532;
@@ -12,14 +18,14 @@ const ENTRY: usize = 65532;
 const BLOCK: usize = 65536;
 
 // `at`: bytes of the block taken. `used`: none are left of it, or no more are wanted. `stop`: the recording is refused, or a line could not
-// be written.
+// be written. `failed`: why nothing more could be read.
 #[derive(Clone, Copy)]
 struct Run {
     report: Report,
     at: usize,
     used: bool,
     stop: bool,
-    failed: bool,
+    failed: Option<io::Error>,
 }
 
 // The bytes from .. to; none where they are not there.
@@ -33,27 +39,32 @@ fn part(s: &[u8], from: usize, to: usize) -> &[u8] {
     &s[from..to]
 }
 
-fn print(out: &[u8; 1024], n: usize) -> bool {
-    io::write_all(STDOUT_FILENO, part(out, 0, n))
+fn print(rt: &impl Print, out: &[u8; 1024], n: usize) -> bool {
+    rt.write_all(part(out, 0, n)).is_ok()
 }
 
 // What a read gave.
 #[derive(Clone, Copy)]
 struct Got {
-    failed: bool,
+    failed: Option<io::Error>,
     count: usize,
 }
 
-fn read(fd: i32, block: &mut [u8]) -> Got {
-    let got = libc::read(fd, block);
-    Got {
-        failed: got < 0,
-        count: io::count(got, block),
+fn read(input: &mut impl Read, block: &mut [u8]) -> Got {
+    match input.read(block) {
+        Ok(count) => Got {
+            failed: None,
+            count,
+        },
+        Err(e) => Got {
+            failed: Some(e),
+            count: 0,
+        },
     }
 }
 
 // One call, and its lines.
-fn show(run: Run, work: &mut [u8; ENTRY], block: &[u8]) -> Run {
+fn show(rt: &impl Print, run: Run, work: &mut [u8; ENTRY], block: &[u8]) -> Run {
     let mut broken = [0u8; 1024];
     let mut line = [0u8; 1024];
     let r = run.report;
@@ -64,8 +75,8 @@ fn show(run: Run, work: &mut [u8; ENTRY], block: &[u8]) -> Run {
         &mut broken,
         &mut line,
     );
-    print(&broken, s.broken);
-    let is_written = print(&line, s.line);
+    print(rt, &broken, s.broken);
+    let is_written = print(rt, &line, s.line);
     let report = s.report;
     let walk = report.walk;
     let stop = !is_written | (walk.number != 0);
@@ -74,64 +85,87 @@ fn show(run: Run, work: &mut [u8; ENTRY], block: &[u8]) -> Run {
         at: std::num::wrapping_add_usize(run.at, s.taken),
         used: stop | (s.taken == 0),
         stop,
-        failed: false,
+        failed: None,
     }
 }
 
 // Hands a block over until all of it is taken. Each call takes a byte at least, so there are no more calls than bytes, and one to see that
 // none is left.
-fn hand_over(run: Run, work: &mut [u8; ENTRY], block: &[u8]) -> Run {
+fn hand_over(rt: &impl Print, run: Run, work: &mut [u8; ENTRY], block: &[u8]) -> Run {
     let mut run = run;
     run.at = 0;
     run.used = false;
     let mut turns = block.len();
     while turns > 0 && !run.used {
-        run = show(run, work, block);
+        run = show(rt, run, work, block);
         turns -= 1;
     }
     run
 }
 
 // A block read, and handed over. At the end of the recording there is none.
-fn turn(fd: i32, run: Run, work: &mut [u8; ENTRY], block: &mut [u8]) -> Run {
-    let got = read(fd, block);
+fn turn(
+    rt: &impl Print,
+    input: &mut impl Read,
+    run: Run,
+    work: &mut [u8; ENTRY],
+    block: &mut [u8],
+) -> Run {
+    let got = read(input, block);
     if got.count == 0 {
         let mut run = run;
         run.stop = true;
         run.failed = got.failed;
         return run;
     }
-    hand_over(run, work, part(block, 0, got.count))
+    hand_over(rt, run, work, part(block, 0, got.count))
 }
 
 // A proved loop has to end, and nothing says that the input does. So the loop counts its turns down, from a number that no run uses up.
-fn read_all(fd: i32, run: Run, work: &mut [u8; ENTRY], block: &mut [u8]) -> Run {
+fn read_all(
+    rt: &impl Print,
+    input: &mut impl Read,
+    run: Run,
+    work: &mut [u8; ENTRY],
+    block: &mut [u8],
+) -> Run {
     let mut run = run;
     let mut turns = u64::MAX;
     while turns > 0 && !run.stop {
-        run = turn(fd, run, work, block);
+        run = turn(rt, input, run, work, block);
         turns -= 1;
     }
     run
 }
 
-fn print_end(r: Report) {
+fn print_end(rt: &impl Print, r: Report) {
     let mut summary = [0u8; 1024];
     let mut refusal = [0u8; 1024];
     let c = report::end(r, &mut summary, &mut refusal);
-    print(&summary, c.summary);
-    print(&refusal, c.refusal);
+    print(rt, &summary, c.summary);
+    print(rt, &refusal, c.refusal);
 }
 
-fn fail(name: &[u8]) {
-    io::write_all(libc::STDERR_FILENO, b"inspect cannot read ");
-    os::fail(name);
+fn refuse(rt: &impl Eprint, name: &str, reason: &str) {
+    let _ = eprintln!(rt; "inspect cannot read {name}: {reason}");
+}
+
+// The system's reason, without the number that std puts behind it.
+fn fail(rt: &(impl Eprint + Alloc), name: &str, e: io::Error) {
+    let Ok(text) = format!(in rt.alloc(); "{e}") else {
+        refuse(rt, name, "out of memory");
+        return;
+    };
+    match text.split_once(" (os error ") {
+        Some((reason, _)) => refuse(rt, name, reason),
+        None => refuse(rt, name, &text),
+    }
 }
 
 // The first byte by itself: the version.
-fn begin(fd: i32) -> Run {
+fn begin(input: &mut impl Read) -> Run {
     let mut first = [0u8; 1];
-    let got = read(fd, &mut first);
+    let got = read(input, &mut first);
     let report = report::begin(part(&first, 0, got.count));
     let walk = report.walk;
     Run {
@@ -143,38 +177,35 @@ fn begin(fd: i32) -> Run {
     }
 }
 
-fn inspect(fd: i32, name: &[u8]) {
+fn inspect(rt: &(impl Print + Eprint + Alloc), input: &mut impl Read, name: &str) {
     let mut work = [0u8; ENTRY];
     let mut block = [0u8; BLOCK];
-    let run = read_all(fd, begin(fd), &mut work, &mut block);
-    if run.failed {
-        fail(name);
+    let run = begin(input);
+    let run = read_all(rt, input, run, &mut work, &mut block);
+    if let Some(e) = run.failed {
+        fail(rt, name, e);
         return;
     }
     let r = run.report;
-    print_end(r);
+    print_end(rt, r);
 }
 
-fn inspect_file() {
-    let mut path = io::buffer();
-    let n = os::arg(1, &mut path);
-    if os::errno() != 0 {
-        fail(b"its argument");
+fn inspect_file(rt: &(impl Print + Eprint + Alloc + Files), path: &[u8]) {
+    let Ok(name) = str::from_utf8(path) else {
+        refuse(rt, "its argument", "it is not UTF-8");
         return;
+    };
+    match File::open(rt, name) {
+        Ok(mut file) => inspect(rt, &mut file, name),
+        Err(e) => fail(rt, name, e),
     }
-    let fd = os::open_read(&path[..n]);
-    if fd < 0 {
-        fail(&path[..n]);
-        return;
-    }
-    inspect(fd, &path[..n]);
-    libc::close(fd);
 }
 
-fn main() {
-    if os::arg_count() < 2 {
-        inspect(0, b"standard input");
-        return;
+fn main(rt: HostRuntime) {
+    let mut path = [0u8; 4096];
+    match rt.arg(1, &mut path) {
+        Ok(n) => inspect_file(&rt, &path[..n]),
+        Err(FillError::TooLong) => refuse(&rt, "its argument", "File name too long"),
+        Err(FillError::NotPresent) => inspect(&rt, &mut rt.stdin(), "standard input"),
     }
-    inspect_file();
 }
