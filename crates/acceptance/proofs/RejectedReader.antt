@@ -2,7 +2,7 @@
 -- promises"): two packets that the writer makes, with the counts 0 and 1, refute them. Assumes nothing.
 use Prim.Native.Nat.{ℕ}
 use mathlib.Core.Path.{◌≡◌, refl, sym, ap, ◌∙◌}
-use mathlib.Core.List.{List, [], ◌∷◌}
+use mathlib.Core.List.{[], ◌∷◌}
 use native.Mathlib.Omega.{arith}
 use lib.Dec.{lit<}
 use Rattle.description.specs.Bytes.{no_stream}
@@ -16,7 +16,6 @@ use Rattle.mdi.specs.declared.Answer.{Answer}
 use Rattle.mdi.specs.Reading.{read_for}
 use Rattle.mdi_write.specs.Packet.{Streams, four, packet_of}
 use Rattle.mdi_write.specs.Answers as writing
-use Rattle.mdi_laws.specs.Typed.{Typed}
 use Rattle.mdi_laws.proofs.Back.{read_back}
 use Rattle.acceptance.specs.Wrong.{Reader, Reads, RefusesAll, OneRecord}
 

@@ -1,5 +1,5 @@
 -- A timestamp to 8 bytes and back, both ways: of the definitions and of the calls' answers. Assumes nothing.
-use Prim.Native.Nat.{ℕ, ◌+◌, ◌^◌, ◌<◌, ◌≤◌}
+use Prim.Native.Nat.{ℕ, ◌^◌, ◌<◌, ◌≤◌}
 use mathlib.Core.Bool.{false}
 use mathlib.Core.Path.{◌≡◌, refl, ap, ◌∙◌}
 use mathlib.Core.List.{List, [], ◌∷◌}
@@ -7,7 +7,7 @@ use native.Mathlib.Nat.{mod-eq_of_lt}
 use native.Mathlib.Omega.{arith}
 use borrow.Author.Tests.{eq-eqb, le-ltb, ltb-false, not-false, eqb-true}
 use lib.Dec.{lit<, ltb}
-use lib.ListN.{length, get_or, take, drop}
+use lib.ListN.{length, get_or, take}
 use Rattle.laws.specs.Big.{Bytes, bytes_of, big_of}
 use Rattle.laws.specs.Fields.{Fit}
 use Rattle.laws.specs.Refuse.{test}

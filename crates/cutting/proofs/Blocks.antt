@@ -1,8 +1,7 @@
 -- The limits of the blocks make no difference. Assumes nothing.
 use Prim.Native.Nat.{ℕ}
-use mathlib.Core.Path.{◌≡◌, refl, sym, ap, ap₂, ◌∙◌}
+use mathlib.Core.Path.{◌≡◌, refl, sym, ap, ◌∙◌}
 use mathlib.Core.List.{List, [], ◌∷◌, ◌++◌, append_assoc, append-nil}
-use lib.ListN.{length}
 use Rattle.cutting.specs.Cutting.{Cut, waiting, joined, by, cut_from, cut_of, unless, feed, feed_all, all_of}
 use Rattle.cutting.specs.declared.Sign.{Sign}
 use Rattle.cutting.specs.declared.Sign.TheVariants.{More, Whole, Wrong}

@@ -1,19 +1,17 @@
 -- Bytes taken as many at a time as nothing is said about. Assumes nothing.
 use Prim.Native.Nat.{ℕ, ◌+◌, ◌-◌, ◌≤◌, ◌<◌, min}
-use mathlib.Core.Path.{◌≡◌, refl, sym, ap, ap₂, ◌∙◌}
+use mathlib.Core.Path.{◌≡◌, refl, sym, ap, ◌∙◌}
 use mathlib.Core.List.{List, [], ◌∷◌, ◌++◌, append_assoc, append-nil}
 use native.Mathlib.Omega.{arith}
 use mathlib.Core.Logic.{◌⊎◌, inl, inr, ⊎_elim}
 use mathlib.Core.Bool.{Bool, true, false}
 use borrow.Author.Tests.{ltb-true, ltb-false}
 use lib.Dec.{ltb}
-use native.Mathlib.Nat.{min-le_left}
 use lib.ListN.{length, take, drop, length-append, length-take, take-append-drop}
-use Rattle.cutting.specs.Cutting.{Cut, waiting, joined, by, cut_from, cut_of, unless, feed, feed_all, all_of, end_number}
+use Rattle.cutting.specs.Cutting.{waiting, joined, by, cut_from, cut_of, all_of, end_number}
 use Rattle.cutting.specs.Records.{Steady, Good, AllGood, Begun, Real}
 use Rattle.cutting.specs.declared.Sign.{Sign}
 use Rattle.cutting.specs.declared.Sign.TheVariants.{More, Whole, Wrong}
-use Rattle.cutting.proofs.Blocks.{cut_append}
 
 pub lt_or_le : (a b : ℕ) → (a < b) ⊎ (b ≤ a)
 lt_or_le a b = go (ltb a b) refl

@@ -10,7 +10,7 @@ use lib.Dec.{ltb, leb}
 use lib.ListN.{length, replicate}
 use Rattle.hand.specs.Settings.{at, total, Allowed}
 use Rattle.hand.specs.declared.Settings.{Settings}
-use Rattle.queue.specs.Queue.{add_up, same, packets, units, unsent}
+use Rattle.queue.specs.Queue.{add_up, same, units, unsent}
 use Rattle.queue.specs.Send.{shares}
 use Rattle.queue.proofs.Sending.{over_le}
 use Rattle.sender.specs.State.{queue_of, waiting_of, broken_state}
@@ -18,7 +18,7 @@ use Rattle.sender.specs.Load.{full, load_tests, load_number}
 use Rattle.sender.specs.Frame.{hand_of}
 use Rattle.sender.proofs.Loading.{passed}
 use Rattle.demand.specs.Bytes.{split, of_id, saying}
-use Rattle.demand.specs.Run.{Act, load, frame, Desk, fresh_desk, number_of, after, run, Answer, answer}
+use Rattle.demand.specs.Run.{Act, load, frame, Desk, fresh_desk, number_of, after, Answer, answer}
 use Rattle.demand.specs.Log.{Event, log, Stands, packets_of, share_for, sent_of, shares_of, left_of, waiting_at}
 use Rattle.demand.specs.Condition.{Called, Written, carries, Taken, waiting_with, Ends, SentWithin, full_at, frame_refused, load_refused, Condition}
 use Rattle.demand.specs.Within.{history, sent_in, waiting_in}

@@ -1,22 +1,21 @@
 -- The fast access channel to 9 bytes and back, both ways: of the definitions and of the calls' answers. Assumes nothing.
 use Prim.Native.Nat.{ℕ, ◌+◌, ◌^◌, ◌<◌, ◌≤◌}
-use mathlib.Core.Bool.{Bool, true, false, not}
-use mathlib.Core.Path.{◌≡◌, refl, sym, ap, ap₂, ◌∙◌}
+use mathlib.Core.Bool.{true, false}
+use mathlib.Core.Path.{◌≡◌, refl, sym, ap, ◌∙◌}
 use mathlib.Core.List.{List, [], ◌∷◌, ◌++◌}
 use native.Mathlib.Nat.{mod-eq_of_lt}
 use native.Mathlib.Omega.{arith}
 use borrow.Author.Tests.{eq-eqb, le-ltb, le-leb, eqb-true, not-false}
-use lib.Dec.{lit<, eqb, leb}
+use lib.Dec.{lit<, leb}
 use lib.ListN.{length, get_or, take, drop, length-append, take-append-drop, drop_of_length-le}
-use lib.Seq.{take_at, get_or-append-add, drop-cons, length-take-le}
+use lib.Seq.{take_at, drop-cons, length-take-le}
 use Rattle.laws.specs.Big.{Bytes, bytes_of, big_of, number_at}
-use Rattle.laws.specs.Fields.{Fit, fields_of}
-use Rattle.laws.specs.Refuse.{refused_with}
+use Rattle.laws.specs.Fields.{fields_of}
 use Rattle.laws.specs.Written.{written}
 use Rattle.laws.proofs.Big.{big_back, bytes_back, big_lt, bytes_length, bytes_take}
 use Rattle.laws.proofs.Fields.{fields_number, number_fields, number_lt, fields_fit}
-use Rattle.laws.proofs.Flags.{and_l, and_r}
-use Rattle.laws.proofs.Refuse.{free, accepted}
+use Rattle.laws.proofs.Flags.{and_r}
+use Rattle.laws.proofs.Refuse.{free}
 use Rattle.laws.proofs.Written.{front}
 use Rattle.fields.proofs.Reading.{number_in}
 use Rattle.crc.specs.Crc.{crc_of}

@@ -1,14 +1,13 @@
 -- The test of a record's fields lets through exactly those that fit their bits. Assumes nothing.
-use Prim.Native.Nat.{ℕ, ◌^◌, ◌<◌}
-use mathlib.Core.Bool.{Bool, false, ◌||◌}
-use mathlib.Core.Path.{◌≡◌, refl, ap}
+use Prim.Native.Nat.{ℕ, ◌^◌}
+use mathlib.Core.Bool.{false}
+use mathlib.Core.Path.{◌≡◌, refl}
 use mathlib.Core.List.{List, [], ◌∷◌}
 use native.Mathlib.Omega.{arith}
 use borrow.Author.Tests.{lt-leb, leb-false}
 use lib.Dec.{leb}
 use lib.ListN.{length}
-use Rattle.laws.specs.Fields.{Fit, fields_of}
-use Rattle.laws.proofs.Fields.{fields_fit}
+use Rattle.laws.specs.Fields.{Fit}
 use Rattle.laws.proofs.Flags.{or_false}
 use Rattle.fac.specs.declared.Fac.{Fac}
 use Rattle.fac.specs.Channel.{widths, in_order, exceeds, is_too_large}

@@ -4,7 +4,7 @@ use mathlib.Core.List.{List, [], ◌∷◌, ◌++◌}
 use Prim.Native.Nat.{ℕ, ◌+◌, ◌-◌, ◌≤◌}
 use native.Mathlib.Omega.{arith}
 use borrow.Author.Tests.{ltb-false, not-false, ne_eqb}
-use lib.Dec.{eqb, lit<}
+use lib.Dec.{lit<}
 use lib.ListN.{length, length-replicate, replicate}
 use Rattle.laws.specs.Refuse.{refused_with}
 use Rattle.laws.specs.Written.{written}
@@ -13,7 +13,6 @@ use Rattle.laws.proofs.Written.{write_next, written_length}
 use Rattle.moves.specs.Moves.{placed, Puts}
 use Rattle.moves.proofs.Turns.{placed_is}
 use Rattle.description.specs.declared.Description.{Description}
-use Rattle.description.specs.Bytes.{said_of}
 use Rattle.description.specs.Answers.{handed}
 use Rattle.places.specs.Parts.{used_by}
 use Rattle.description.proofs.Filled.{filled_each}

@@ -2,7 +2,7 @@
 -- Assumes nothing.
 use Prim.Native.Nat.{ℕ}
 use mathlib.Core.List.{List}
-use mathlib.Core.Path.{◌≡◌, subst}
+use mathlib.Core.Path.{subst}
 use Rattle.laws.specs.Settle.{Settles}
 use Rattle.calendar.specs.declared.Date.{Date}
 use Rattle.calendar.proofs.Parts.{one_date}

@@ -1,18 +1,18 @@
 -- What is written is read: joined items are cut into those items. Assumes nothing.
-use Prim.Native.Nat.{ℕ, zero, suc, ◌+◌, ◌*◌, ◌-◌, ◌/◌, ◌%◌, ◌^◌, ◌≤◌, ◌<◌}
-use mathlib.Core.Path.{◌≡◌, refl, sym, ap, ap₂, ◌∙◌, subst}
+use Prim.Native.Nat.{ℕ, ◌+◌, ◌≤◌}
+use mathlib.Core.Path.{◌≡◌, refl, sym, ap, ap₂, ◌∙◌}
 use mathlib.Core.Bool.{Bool, true, false, true≢false}
 use mathlib.Core.List.{List, [], ◌∷◌, ◌++◌, append_assoc, append-nil}
 use native.Mathlib.Nat.{add-zero, zero-add}
 use native.Mathlib.Omega.{arith}
 use borrow.Author.Tests.{le-leb}
-use lib.Dec.{leb, eqb}
-use lib.ListN.{length, get_or, take, drop, length-append}
+use lib.Dec.{eqb}
+use lib.ListN.{length, take, drop, length-append}
 use lib.Seq.{take_at, drop_at, drop-drop}
 use Rattle.laws.specs.Pick.{pick}
 use Rattle.laws.specs.Big.{bytes_of, big_of, number_at}
 use Rattle.laws.proofs.Big.{big_back, bytes_length}
-use Rattle.items.specs.Items.{Item, Cut, bits_at, bytes_for, size_of, item_at, no_item, item_then, cut_from, cut_of, same_name, Found, none, some, find, All, Once}
+use Rattle.items.specs.Items.{Item, bits_at, size_of, item_at, no_item, item_then, cut_from, cut_of, same_name, none, some, find, All, Once}
 use Rattle.items.proofs.Rule.{cut_item, cut_none, size_pos}
 use Rattle.items.proofs.Names.{same_list, list_same}
 use Rattle.items.specs.Joined.{item_bytes, wire_of, joined, put_at, placed, kept, Sound, Distinct, chunk, total, bare, keep}

@@ -1,15 +1,15 @@
 -- What is found does not depend on the order of the items, nor on an item of another name; one item may be changed for another of its
 -- name. Assumes nothing.
-use Prim.Native.Nat.{ℕ, ◌+◌, ◌≤◌}
-use mathlib.Core.Path.{◌≡◌, refl, sym, ap, ap₂, ◌∙◌, subst}
-use mathlib.Core.Bool.{Bool, true, false, true≢false}
+use Prim.Native.Nat.{ℕ, ◌+◌}
+use mathlib.Core.Path.{◌≡◌, refl, sym, ap, ◌∙◌, subst}
+use mathlib.Core.Bool.{Bool, true, false}
 use mathlib.Core.List.{List, [], ◌∷◌, ◌++◌}
 use native.Mathlib.Omega.{arith}
 use lib.ListN.{length}
 use Rattle.laws.specs.Pick.{pick}
-use Rattle.items.specs.Items.{Item, same_name, Found, none, some, find, All, Once}
-use Rattle.items.specs.Joined.{put_at, placed, total}
-use Rattle.items.specs.Order.{Taken, Reordered}
+use Rattle.items.specs.Items.{Item, same_name, Found, some, find, All, Once}
+use Rattle.items.specs.Joined.{placed, total}
+use Rattle.items.specs.Order.{Reordered}
 use Rattle.items.proofs.Names.{same_list}
 
 -- ---- facts of each item

@@ -1,18 +1,16 @@
 -- What the passes over a packet do at an offset, in the code's words. Assumes nothing.
-use mathlib.Core.Path.{◌≡◌, refl, sym, ap, ap₂, ◌∙◌}
-use mathlib.Core.List.{List, [], ◌∷◌}
+use mathlib.Core.Path.{◌≡◌, refl, sym, ap, ◌∙◌}
+use mathlib.Core.List.{List, []}
 use Prim.Native.Nat.{ℕ, suc, ◌+◌, ◌*◌, ◌-◌, ◌≤◌, ◌<◌}
 use native.Mathlib.Omega.{arith}
 use borrow.Author.Tests.{le-leb, lt-leb}
-use lib.Dec.{leb}
 use lib.ListN.{length, take, drop, length-drop}
 use lib.Seq.{drop-drop, take_all}
-use Rattle.laws.specs.Pick.{pick}
 use Rattle.laws.specs.Big.{big_of, number_at}
-use Rattle.items.specs.Items.{Item, Cut, bytes_for, bits_at, size_of, item_at, no_item, item_then, cut_from, cut_of, size_at, shown_at, walked_of}
+use Rattle.items.specs.Items.{Cut, bytes_for, bits_at, size_of, no_item, item_then, cut_from, cut_of, size_at, shown_at, walked_of}
 use Rattle.items.specs.declared.Spot.{Spot}
 use Rattle.items.specs.declared.Walked.{Walked}
-use Rattle.items.proofs.Rule.{at_none, at_item, at_fits, whole, size_pos}
+use Rattle.items.proofs.Rule.{at_none, at_item, at_fits, size_pos}
 
 -- ---- `size_at`
 

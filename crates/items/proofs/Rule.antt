@@ -1,15 +1,15 @@
 -- The rule of the items: a whole item at the front and then the items of the rest, or none. Assumes nothing.
-use mathlib.Core.Path.{◌≡◌, refl, sym, ap, ap₂, ◌∙◌, subst}
+use mathlib.Core.Path.{◌≡◌, refl, ap, ap₂, ◌∙◌}
 use mathlib.Core.Bool.{Bool, true, false}
 use mathlib.Core.List.{List, [], ◌∷◌}
-use Prim.Native.Nat.{ℕ, zero, suc, ◌+◌, ◌-◌, ◌≤◌, ◌<◌}
+use Prim.Native.Nat.{ℕ, zero, suc, ◌+◌, ◌≤◌, ◌<◌}
 use native.Mathlib.Omega.{arith}
 use borrow.Author.Tests.{le-leb, lt-leb, leb-true, leb-false}
 use lib.Dec.{leb}
-use lib.ListN.{length, take, drop, length-drop}
+use lib.ListN.{length, drop, length-drop}
 use lib.Seq.{drop-drop}
 use Rattle.laws.specs.Pick.{pick}
-use Rattle.items.specs.Items.{Item, Cut, bytes_for, bits_at, size_of, item_at, no_item, item_then, cut_after, cut_from, size_at}
+use Rattle.items.specs.Items.{bytes_for, bits_at, size_of, item_at, no_item, item_then, cut_after, cut_from, size_at}
 
 -- bytes of an item are passed over
 cut_skip : (k : ℕ) (s : List ℕ) (at : ℕ) → k ≤ length s → cut_after k s at ≡ cut_after 0 (drop k s) (at + k)

@@ -2,7 +2,7 @@
 -- `(cut_of p).items` may be read as "the items of p". Assumes nothing.
 use Rattle.std.specs.Prelude.{ℕ, ◌<◌, ◌≡◌, List, ◌++◌, length, drop}
 use Rattle.laws.specs.Big.{Bytes}
-use Rattle.items.specs.Items.{Item, Cut, size_of, cut_of, All}
+use Rattle.items.specs.Items.{Item, size_of, cut_of, All}
 use Rattle.items.specs.Joined.{joined, placed, Sound}
 
 -- no whole item stands at the front: of its header, or of the value that the header announces, something is missing

@@ -1,1 +1,3 @@
+#![tactic(auto)]
+
 // Definitions and laws that several crates cite. There is no code here.

@@ -11,7 +11,7 @@ use Rattle.laws.specs.Pick.{pick}
 use Rattle.queue.specs.Queue.{add_up, waits, waiting}
 use Rattle.sender.specs.State.{fresh}
 use Rattle.sender.specs.Kept.{stored_of, fresh_kept}
-use Rattle.demand.specs.Run.{Act, settings_of, Steady, Desk, fresh_desk, run, Answer, answer, answers}
+use Rattle.demand.specs.Run.{Act, settings_of, Steady, Desk, fresh_desk, run, Answer, answers}
 use Rattle.demand.specs.Log.{Event, events, Stands, waiting_at}
 use Rattle.demand.specs.Within.{waiting_in}
 use Rattle.demand.proofs.Mirror.{mirror, waiting_seen}

@@ -1,5 +1,5 @@
 -- The values of a record that can be written: their lengths are the table's, and the timestamp comes back. Assumes nothing.
-use Prim.Native.Nat.{ℕ, zero, suc, ◌+◌, ◌*◌, ◌-◌, ◌%◌, ◌≤◌}
+use Prim.Native.Nat.{ℕ, zero, suc, ◌+◌, ◌*◌, ◌%◌, ◌≤◌}
 use mathlib.Core.Path.{◌≡◌, refl, ap}
 use mathlib.Core.Bool.{Bool, true, false, ◌&&◌, ◌||◌}
 use mathlib.Core.Logic.{◌⊎◌, inl, inr}
@@ -11,7 +11,6 @@ use lib.ListN.{length, get_or}
 use Rattle.laws.specs.Pick.{pick}
 use Rattle.laws.proofs.Flags.{both, or_false}
 use Rattle.clock.specs.Stamps as clock
-use Rattle.clock.proofs.Answers.{whole}
 use Rattle.clock.proofs.Back as stamp
 use Rattle.clock.proofs.Fit.{within}
 use Rattle.description.specs.declared.Description.{Description}
@@ -25,13 +24,13 @@ use Rattle.sdc.proofs.Back as blocks
 use Rattle.record.specs.declared.Record.{Record}
 use Rattle.record.specs.declared.Time.{Time}
 use Rattle.record.specs.declared.Time.TheVariants.{Absent, Given}
-use Rattle.items.specs.Items.{Found, value_of}
+use Rattle.items.specs.Items.{Found}
 use Rattle.items.specs.Joined.{Sound, chunk_size}
 use Rattle.mdi_spots.specs.Table.{exactly, whole_bytes, sdc_bits, sdci_bits}
 use Rattle.mdi.specs.Conditions.{on_time}
 use Rattle.mdi.specs.Reading.{time_of}
 use Rattle.mdi_write.specs.Packet.{Streams, entry, time_bytes}
-use Rattle.mdi_write.specs.Answers.{bad_time, is_too_large, agreed, Fits}
+use Rattle.mdi_write.specs.Answers.{bad_time, agreed, Fits}
 use Rattle.mdi_write.specs.Rows.{wire_size}
 use Rattle.mdi_write.proofs.Values.{value_size_law}
 use Rattle.mdi_write.proofs.Numbers.{Small, small_of}

@@ -1,12 +1,10 @@
 -- What `put` answers and leaves, and pieces written one behind the other. Assumes nothing.
-use mathlib.Core.Path.{◌≡◌, refl, sym, ap, ap₂, ◌∙◌, subst}
+use mathlib.Core.Path.{◌≡◌, refl, sym, ap₂, ◌∙◌, subst}
 use mathlib.Core.List.{List, [], ◌++◌}
 use Prim.Native.Nat.{ℕ, ◌+◌, ◌-◌, ◌≤◌, ◌<◌}
 use native.Mathlib.Omega.{arith}
 use borrow.Author.Tests.{le-leb, lt-leb}
-use lib.ListN.{length, take, length-append}
-use lib.Seq.{take_all}
-use Rattle.laws.specs.Written.{written}
+use lib.ListN.{length, length-append}
 use Rattle.laws.proofs.Written.{written_none, write_next}
 use Rattle.moves.specs.Moves.{placed, behind, Puts}
 

@@ -1,5 +1,5 @@
 -- What the next packet of p data bytes takes of a queue, and what it leaves. Assumes nothing.
-use Rattle.std.specs.Prelude.{ℕ, ◌+◌, ◌-◌, min, List, [], ◌∷◌, ◌++◌, ltb, leb, eqb, get_or, set, drop}
+use Rattle.std.specs.Prelude.{ℕ, ◌+◌, ◌-◌, min, [], ◌∷◌, ◌++◌, ltb, leb, eqb, get_or, set, drop}
 use Rattle.laws.specs.Pick.{pick}
 use Rattle.queue.specs.declared.Queue.{Queue}
 

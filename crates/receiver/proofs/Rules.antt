@@ -5,7 +5,7 @@ use mathlib.Core.Bool.{Bool, true, false, not, ◌&&◌}
 use lib.Dec.{leb}
 use Rattle.laws.specs.Pick.{pick}
 use Rattle.receiver.specs.declared.Link.{Link}
-use Rattle.receiver.specs.Link.{kept, null_of, base_of, joins, adds, completes, link_with, link_after, fate_of, Fate, delivered, added, dropped, skipped}
+use Rattle.receiver.specs.Link.{kept, null_of, base_of, joins, adds, completes, link_with, link_after, fate_of, delivered, added, dropped, skipped}
 use Rattle.receiver.specs.Rules.{Ruled, closes, comes_to, ruled}
 
 -- both sides by their tests: c null, t last, o a unit is open, e it does not pass 4,096 bytes with the packet, m bytes then

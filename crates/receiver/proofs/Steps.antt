@@ -1,5 +1,5 @@
 -- The step: its refusals by the way taken, and what it answers. Assumes nothing.
-use Prim.Native.Nat.{ℕ, ◌+◌, ◌-◌, ◌*◌, ◌%◌, ◌≤◌, ◌<◌}
+use Prim.Native.Nat.{ℕ, ◌+◌, ◌-◌, ◌*◌, ◌≤◌, ◌<◌}
 use mathlib.Core.Path.{◌≡◌, refl, sym, ap, ap₂, ◌∙◌}
 use mathlib.Core.List.{List, []}
 use mathlib.Core.Bool.{Bool, true, false, not, ◌&&◌, ◌||◌}
@@ -8,7 +8,6 @@ use borrow.Author.Tests.{eq-eqb, ne_eqb, eqb-true, not-false}
 use lib.Dec.{ltb, eqb, lit<}
 use lib.ListN.{length, get_or, set, take, drop}
 use Rattle.laws.specs.Pick.{pick}
-use Rattle.laws.specs.Refuse.{refused_with}
 use Rattle.laws.specs.Said.{Said}
 use Rattle.laws.specs.Written.{written}
 use Rattle.laws.proofs.Refuse.{free}
@@ -17,7 +16,7 @@ use Rattle.moves.proofs.Turns.{placed_is}
 use Rattle.packet.specs.Packet.{Packet, padded, body_of, decode}
 use Rattle.packet.specs.Calls.{wrong_word, wrong_count, tests_for, check_for, no_head, head_for, read_for}
 use Rattle.packet.specs.declared.Head.{Head}
-use Rattle.packet.proofs.Reading.{Passed, passed, body_padded, body_full}
+use Rattle.packet.proofs.Reading.{passed, body_padded, body_full}
 use Rattle.receiver.specs.declared.Link.{Link}
 use Rattle.receiver.specs.declared.Receiver.{Receiver}
 use Rattle.receiver.specs.declared.Told.{Told}

@@ -1,14 +1,12 @@
 -- What empty values say: all zeros. Assumes nothing.
-use Rattle.std.proofs.Common.{◌≡◌, ℕ, List, [], refl, ap, ◌∙◌, ap₂}
+use Rattle.std.proofs.Common.{◌≡◌, []}
 use Rattle.laws.specs.Big.{number_at, big_of}
 use Rattle.fac.specs.declared.Fac.{Fac}
 use Rattle.fac.specs.Channel.{fac_from, fac_of}
-use Rattle.fac.specs.Answers.{no_fac}
 use Rattle.sdc.specs.declared.Sdc.{Sdc}
 use Rattle.sdc.specs.Block.{no_sdc}
 use Rattle.description.specs.declared.Description.{Description}
-use Rattle.description.specs.Bytes.{lengths_of, slot_at, described_by, nothing}
-use Rattle.record.specs.declared.Record.{Record}
+use Rattle.description.specs.Bytes.{slot_at, described_by}
 use Rattle.record.specs.declared.Time.TheVariants.{Absent}
 use Rattle.record.specs.Records.{no_record}
 

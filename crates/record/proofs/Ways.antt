@@ -1,6 +1,6 @@
 -- The ways through the code, in its own words. Assumes nothing.
-use Rattle.std.proofs.Common.{◌≡◌, ℕ, ◌+◌, ◌%◌, ◌^◌, Bool, true, false, ◌&&◌, eqb, ◌++◌, sym, refl, ◌∙◌, lit<, ne_eqb}
-use Rattle.laws.specs.Refuse.{refused_with, Real, Free}
+use Rattle.std.proofs.Common.{◌≡◌, ℕ, ◌+◌, ◌%◌, ◌^◌, Bool, true, false, ◌&&◌, eqb, sym, refl, ◌∙◌, lit<, ne_eqb}
+use Rattle.laws.specs.Refuse.{refused_with, Free}
 use Rattle.laws.proofs.Join.{before, behind}
 use Rattle.laws.proofs.Refuse.{free}
 use Rattle.clock.specs.declared.Stamp.{Stamp}

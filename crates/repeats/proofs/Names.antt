@@ -1,20 +1,19 @@
 -- The names that came so far, as stored keys, and what the pass over the items knows at an offset. Assumes nothing.
 use Prim.Native.Nat.{ℕ, zero, suc, ◌+◌, ◌*◌, ◌-◌, ◌≤◌, ◌<◌}
-use mathlib.Core.Path.{◌≡◌, refl, sym, ap, ap₂, ◌∙◌, subst}
+use mathlib.Core.Path.{◌≡◌, refl, sym, ap, ap₂, ◌∙◌}
 use mathlib.Core.Bool.{Bool, true, false, ◌||◌, true≢false}
 use mathlib.Core.List.{List, [], ◌∷◌, ◌++◌}
-use mathlib.Core.Logic.{◌⊎◌, inl, inr, ⊎_elim}
+use mathlib.Core.Logic.{inl}
 use native.Mathlib.Omega.{arith}
 use borrow.Author.Tests.{le-ltb, lt-ltb, ltb-true, ltb-false}
-use lib.Dec.{ltb, eqb}
+use lib.Dec.{ltb}
 use lib.ListN.{length, get_or, take, drop, replicate, length-append, length-replicate, length-drop, get_or-append}
 use lib.Seq.{get_or-take, get_or-append_seam, length-take-le}
 use Rattle.laws.specs.Pick.{pick}
-use Rattle.laws.specs.Limits.{longest}
 use Rattle.laws.specs.Big.{big_of, number_at, Bytes}
 use Rattle.laws.proofs.Big.{bytes_take, bytes_drop}
 use Rattle.laws.proofs.Flags.{or_true}
-use Rattle.items.specs.Items.{Item, Cut, Found, none, some, item_at, no_item, item_then, cut_from, cut_of, size_at, same_name, among, again, twice, is_there, place_of}
+use Rattle.items.specs.Items.{Cut, none, some, item_at, no_item, item_then, cut_from, cut_of, size_at, same_name, among, again, twice, is_there, place_of}
 use Rattle.items.proofs.Rule.{at_none, at_item, at_fits}
 use Rattle.items.proofs.Names.{same_list, list_same, number_same}
 use Rattle.items.proofs.Passes.{name_number}

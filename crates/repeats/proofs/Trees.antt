@@ -1,5 +1,5 @@
 -- Laws of the tree. Assumes nothing.
-use Prim.Native.Nat.{ℕ, zero, suc, ◌+◌, ◌*◌, ◌-◌, ◌/◌, ◌%◌, ◌≤◌, ◌<◌}
+use Prim.Native.Nat.{ℕ, zero, suc, ◌+◌, ◌*◌, ◌/◌, ◌%◌, ◌≤◌, ◌<◌}
 use mathlib.Core.Path.{◌≡◌, refl, sym, ap, ap₂, ◌∙◌, subst}
 use mathlib.Core.Bool.{Bool, true, false}
 use mathlib.Core.List.{List, [], ◌∷◌, ◌++◌}
@@ -9,8 +9,8 @@ use native.Mathlib.Omega.{arith}
 use lib.Dec.{T, eqb, eqb→eq}
 use borrow.Author.Tests.{eqb-false}
 use lib.ListN.{length, get_or, take, set}
-use lib.Seq.{get_or-set_same, get_or-set_other, take-suc-set, take-set-le}
-use Rattle.repeats.specs.Tree.{slot_of, Leads, Reach, Tree, Member, Miss, Ends, Stored}
+use lib.Seq.{get_or-set_same, get_or-set_other, take-suc-set}
+use Rattle.repeats.specs.Tree.{slot_of, Leads, Reach, Tree, Miss, Ends, Stored}
 use Rattle.repeats.specs.declared.Step.{Step}
 
 -- one step more at the end

@@ -1,7 +1,6 @@
 -- The ways through the code, in its own words. Assumes nothing.
-use Rattle.std.proofs.Common.{◌≡◌, ℕ, ◌+◌, Bool, true, false, not, ◌&&◌, eqb, List, [], length, sym, refl, ap, ◌∙◌, subst, ap₂, zero-add, arith, eq-eqb, ne_eqb}
+use Rattle.std.proofs.Common.{◌≡◌, ℕ, Bool, true, false, not, eqb, List, length, sym, refl, ap, ◌∙◌, subst, ap₂, zero-add, eq-eqb, ne_eqb}
 use borrow.Author.Tests.{not-true, not-false}
-use Rattle.laws.specs.Pick.{pick}
 use Rattle.laws.specs.Written.{written}
 use Rattle.laws.proofs.Written.{written_none}
 use Rattle.calendar.specs.Dates.{date_of}
@@ -26,7 +25,6 @@ use Rattle.walk.specs.declared.Walk.{Walk}
 use Rattle.report.specs.declared.Seen.{Seen}
 use Rattle.report.specs.declared.Report.{Report}
 use Rattle.report.specs.declared.Shown.{Shown}
-use Rattle.report.specs.declared.Closed.{Closed}
 use Rattle.report.specs.declared.Told.{Told}
 use Rattle.report.specs.Report.{break_of, line_of, seen_after, no_seen, begun_for, is_whole, answer_in, break_for, line_for, seen_for, shown_for, summary_of, refusal_of, summary_for, refusal_for, closed_for}
 

@@ -8,7 +8,6 @@ use Rattle.summary_text.specs.Summary.{summary_text}
 use Rattle.mdi.specs.Reading.{read_for}
 use Rattle.mdi.specs.declared.Answer.{Answer}
 use Rattle.record.specs.Records.{no_record}
-use Rattle.record.specs.declared.Time.{Time}
 use Rattle.stamp_text.specs.Stamp.{since}
 use Rattle.tally.specs.Tally.{no_tally, counted_for, up}
 use Rattle.walk.specs.Walk as walks

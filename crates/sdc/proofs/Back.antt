@@ -4,12 +4,12 @@ use mathlib.Core.Bool.{Bool, true, false, not, ◌&&◌, ◌||◌}
 use mathlib.Core.Logic.{◌⊎◌, inl, inr}
 use mathlib.Core.Path.{◌≡◌, refl, sym, ap, ap₂, ◌∙◌}
 use mathlib.Core.List.{List, [], ◌∷◌, ◌++◌}
-use native.Mathlib.Nat.{mod-eq_of_lt, mod-lt}
+use native.Mathlib.Nat.{mod-eq_of_lt}
 use native.Mathlib.Omega.{arith}
 use borrow.Author.Tests.{lt-ltb, le-ltb, le-leb, eq-eqb, ne_eqb, ltb-false, ltb-true, eqb-true, not-false}
-use lib.Dec.{ltb, leb, eqb, lit<}
+use lib.Dec.{ltb, leb, eqb}
 use lib.ListN.{length, get_or, take, drop, replicate, length-append, length-drop, length-replicate, take-append-drop}
-use lib.Seq.{take_at, drop_at, take_all, drop-cons, drop-drop, length-take-le, take-add}
+use lib.Seq.{take_at, drop_at, take_all, length-take-le, take-add}
 use Rattle.laws.specs.Big.{Bytes, bytes_of, big_of, number_at}
 use Rattle.laws.specs.Pick.{pick}
 use Rattle.laws.proofs.Big.{big_back, bytes_back, bytes_length, bytes_drop}

@@ -2,11 +2,11 @@
 use Prim.Native.Nat.{ℕ, zero, suc, ◌+◌, ◌-◌, ◌%◌, ◌≤◌, ◌<◌}
 use mathlib.Core.Bool.{Bool, true, false, not, ◌&&◌, ◌||◌, and-true, and_assoc}
 use mathlib.Core.Path.{◌≡◌, refl, sym, ap, ap₂, ◌∙◌}
-use mathlib.Core.List.{List, [], ◌∷◌, ◌++◌}
+use mathlib.Core.List.{List, ◌++◌}
 use native.Mathlib.Nat.{add-sub_cancel_left}
 use native.Mathlib.Numerals.{add-one}
 use native.Mathlib.Omega.{arith}
-use borrow.Author.Tests.{lt-ltb, le-ltb, le-leb, lt-leb, eq-eqb, ne_eqb, ltb-false, ltb-true}
+use borrow.Author.Tests.{lt-ltb, le-ltb, le-leb, lt-leb, eq-eqb, ne_eqb, ltb-true}
 use lib.Dec.{ltb, eqb}
 use lib.ListN.{length, get_or, take, drop, replicate, length-drop, length-replicate, drop_of_length-le}
 use lib.Seq.{drop-cons, length-take-le}
@@ -19,7 +19,7 @@ use Rattle.crc.specs.Crc.{crc_of}
 use Rattle.sdc.specs.declared.Head.{Head}
 use Rattle.sdc.specs.declared.Head.TheVariants.{Absent, Given}
 use Rattle.sdc.specs.declared.Sdc.{Sdc}
-use Rattle.sdc.specs.Block.{most, capped, padded, no_sdc, data_in, sdc_of, sealed, size_of, afs_of, over_long, blank, is_too_large}
+use Rattle.sdc.specs.Block.{capped, padded, no_sdc, data_in, sdc_of, sealed, size_of, afs_of, over_long, blank, is_too_large}
 
 -- ---- at most 1,024
 pub cap_over : (n : ℕ) → 1024 < n → (1024 ≡ capped n) × (1024 ≤ 1024) × (1024 ≤ n)

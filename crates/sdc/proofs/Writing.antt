@@ -1,10 +1,10 @@
 -- The value of a block written at an offset: its stores one behind the other. Assumes nothing.
 use Prim.Native.Nat.{ℕ, ◌+◌, ◌-◌, ◌≤◌, ◌<◌}
 use mathlib.Core.Bool.{Bool, true, false}
-use mathlib.Core.Path.{◌≡◌, refl, sym, ap, ap₂, ◌∙◌}
+use mathlib.Core.Path.{◌≡◌, refl, sym, ap, ◌∙◌}
 use mathlib.Core.List.{List, [], ◌∷◌, ◌++◌}
 use native.Mathlib.Omega.{arith}
-use borrow.Author.Tests.{lt-ltb, le-ltb, ltb-false, ltb-true}
+use borrow.Author.Tests.{ltb-true}
 use lib.Dec.{ltb}
 use lib.ListN.{length, take, drop, set, length-append, length-set}
 use lib.Seq.{take_at, drop_at, take_all, length-take-le}
@@ -18,7 +18,6 @@ use Rattle.fields.proofs.Writing.{put_in}
 use Rattle.moves.specs.Moves.{placed}
 use Rattle.moves.proofs.Turns.{placed_is, short, outside}
 use Rattle.crc.specs.Crc.{crc_of}
-use Rattle.sdc.specs.declared.Head.{Head}
 use Rattle.sdc.specs.declared.Head.TheVariants.{Absent, Given}
 use Rattle.sdc.specs.declared.Sdc.{Sdc}
 use Rattle.sdc.specs.Block.{most, capped, sealed16, block_bytes, sdc_bytes}

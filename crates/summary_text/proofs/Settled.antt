@@ -1,7 +1,7 @@
 -- The promise settles the call: two outcomes that meet it for the same input are equal (01, "Acceptance of the promises"). Assumes nothing.
 use Prim.Native.Nat.{ℕ}
 use mathlib.Core.List.{List}
-use mathlib.Core.Path.{◌≡◌, subst}
+use mathlib.Core.Path.{subst}
 use Rattle.laws.specs.Settle.{Settles}
 use Rattle.calendar.specs.declared.Date.{Date}
 use Rattle.calendar.proofs.Parts.{one_date}

@@ -1,16 +1,16 @@
 -- One walk over the items finds the first of each row. Assumes nothing.
-use Prim.Native.Nat.{ℕ, zero, suc, ◌+◌, ◌≤◌, ◌<◌}
+use Prim.Native.Nat.{ℕ, ◌+◌, ◌≤◌, ◌<◌}
 use mathlib.Core.Path.{◌≡◌, refl, sym, ap, ap₂, ◌∙◌}
 use mathlib.Core.Bool.{Bool, true, false, ◌&&◌}
-use mathlib.Core.List.{List, [], ◌∷◌}
+use mathlib.Core.List.{List, ◌∷◌}
 use native.Mathlib.Omega.{arith}
 use borrow.Author.Tests.{ne_eqb}
 use lib.Dec.{eqb}
-use lib.ListN.{length, get_or, take, drop}
+use lib.ListN.{length, get_or, drop}
 use lib.Seq.{ext_get_or}
 use Rattle.laws.specs.Pick.{pick}
 use Rattle.laws.specs.Big.{big_of, number_at}
-use Rattle.items.specs.Items.{Item, Cut, Found, none, some, bits_at, item_at, no_item, item_then, cut_from, cut_of, size_at, spot_of}
+use Rattle.items.specs.Items.{Item, Cut, Found, none, some, item_at, no_item, item_then, cut_from, cut_of, size_at, spot_of}
 use Rattle.items.specs.declared.Spot.{Spot}
 use Rattle.items.proofs.Rule.{at_none, at_item, at_fits}
 use Rattle.items.proofs.Passes.{name_number, bits_later}

@@ -1,12 +1,11 @@
 -- The walk in the words of the source: names one behind the other, and slots. Assumes nothing.
-use Prim.Native.Nat.{ℕ, ◌+◌, ◌^◌, ◌≤◌, ◌<◌}
+use Prim.Native.Nat.{ℕ, ◌+◌, ◌^◌, ◌<◌}
 use mathlib.Core.Path.{◌≡◌, refl, sym, ap, ◌∙◌}
 use mathlib.Core.List.{List}
-use lib.Dec.{eqb}
 use lib.ListN.{length}
 use borrow.Author.Tests.{eq-eqb, ne_eqb}
 use Rattle.laws.specs.Big.{number_at}
-use Rattle.items.specs.Items.{Cut, cut_of, size_at, walked_of}
+use Rattle.items.specs.Items.{cut_of, size_at, walked_of}
 use Rattle.items.specs.declared.Walked.{Walked}
 use Rattle.tag_spots.specs.Rows.{keys_of, starts_after, bits_after, starts_for, bits_for}
 use Rattle.tag_spots.specs.Notes.{row_of, noted_at}

@@ -1,6 +1,6 @@
 -- A table of names, and where the items of its rows stand in a packet. The names stand one behind the other, four bytes each; a row is its
 -- place in the table. A table has slots: the slot at the remainder of a name's number by their count holds the name's row. Assumes nothing.
-use Rattle.std.specs.Prelude.{ℕ, zero, suc, ◌*◌, ◌%◌, ◌^◌, Bool, List, [], ◌∷◌, ◌++◌, eqb, length, get_or}
+use Rattle.std.specs.Prelude.{ℕ, zero, suc, ◌*◌, ◌%◌, ◌^◌, List, [], ◌∷◌, ◌++◌, eqb, length, get_or}
 use Rattle.laws.specs.Big.{big_of, number_at}
 use Rattle.laws.specs.Pick.{pick}
 use Rattle.items.specs.Items.{Item, Found, none, some, spot_of}

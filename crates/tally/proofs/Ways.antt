@@ -1,5 +1,5 @@
 -- The ways through the code, in its own words. Assumes nothing.
-use Rattle.std.proofs.Common.{◌≡◌, ℕ, ◌+◌, ◌%◌, ◌^◌, Bool, true, false, [], ◌∷◌, get_or, set, replicate, sym, refl, ap, ◌∙◌}
+use Rattle.std.proofs.Common.{◌≡◌, ℕ, ◌+◌, ◌%◌, ◌^◌, Bool, true, false, get_or, set, replicate, refl}
 use Rattle.mdi.specs.declared.Answer.{Answer}
 use Rattle.clock.specs.declared.Stamp.{Stamp}
 use Rattle.record.specs.declared.Time.{Time}

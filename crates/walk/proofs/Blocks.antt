@@ -1,12 +1,11 @@
 -- One call of a walk against the cut of the bytes taken so far: the state and the work buffer stand for it, before and after. `Stands` is the
 -- invariant of a run and no part of a promise. Assumes nothing.
-use Rattle.std.proofs.Common.{◌≡◌, ℕ, ◌+◌, ◌-◌, ◌%◌, ◌^◌, ◌<◌, ◌≤◌, min, Bool, true, false, eqb, ltb, leb, List, [], ◌∷◌, ◌++◌, length, take, drop, sym, refl, ap, ◌∙◌, subst, ap₂, append_assoc, append-nil, arith, lit<, length-append, take-append-drop, length-take, length-take-le, take_all, take-add, drop_at, le-ltb, eq-eqb, leb-false, leb-true}
+use Rattle.std.proofs.Common.{◌≡◌, ℕ, ◌+◌, ◌-◌, ◌%◌, ◌^◌, ◌<◌, ◌≤◌, min, Bool, true, false, eqb, ltb, leb, List, [], ◌∷◌, ◌++◌, length, take, drop, sym, refl, ap, ◌∙◌, ap₂, append-nil, arith, lit<, length-append, take-append-drop, length-take, length-take-le, take_all, take-add, drop_at, le-ltb, eq-eqb, leb-false, leb-true}
 use native.Mathlib.Nat.{mod-add-mod}
 use lib.Seq.{drop-length}
 use Rattle.laws.specs.Big.{number_at}
 use Rattle.laws.specs.Pick.{pick}
-use Rattle.cutting.specs.Cutting.{Cut, waiting, joined, by, feed, unless, all_of}
-use Rattle.cutting.specs.declared.Sign.{Sign}
+use Rattle.cutting.specs.Cutting.{Cut, waiting, joined, by, feed, all_of}
 use Rattle.cutting.specs.declared.Sign.TheVariants.{More, Whole, Wrong}
 use Rattle.cutting.proofs.Needs.{step_taken, taken, takes_one}
 use Rattle.moves.specs.Moves.{placed}

@@ -1,6 +1,5 @@
 -- What the calls answer and leave, by the way taken. Assumes nothing.
-use Rattle.std.proofs.Common.{◌≡◌, ℕ, ◌+◌, ◌-◌, ◌%◌, ◌^◌, ◌<◌, ◌≤◌, min, Bool, true, false, ltb, List, [], ◌++◌, length, take, drop, sym, refl, ap, ◌∙◌, ap₂, append_assoc, arith, lit≤, length-append, length-take, length-take-le, take_all, take_at, ltb-false, ltb-true, le-ltb, lt-ltb, eq-eqb, ne_eqb, le-leb}
-use native.Mathlib.Nat.{add-sub_cancel_left}
+use Rattle.std.proofs.Common.{◌≡◌, ℕ, ◌+◌, ◌-◌, ◌%◌, ◌^◌, ◌<◌, ◌≤◌, min, Bool, true, false, ltb, List, [], ◌++◌, length, take, drop, sym, refl, ap, ◌∙◌, ap₂, append_assoc, arith, lit≤, length-append, length-take-le, take_all, take_at, ltb-false, ltb-true, le-ltb, lt-ltb, eq-eqb, ne_eqb, le-leb}
 use Rattle.laws.specs.Big.{number_at}
 use Rattle.laws.specs.Pick.{pick}
 use Rattle.laws.specs.Written.{written}
@@ -13,7 +12,6 @@ use Rattle.recording.specs.declared.Step.{Step}
 use Rattle.recording.specs.declared.Step.TheVariants.{Entry, End, Refused}
 use Rattle.walk.specs.declared.Walk.{Walk}
 use Rattle.walk.specs.declared.Fed.{Fed}
-use Rattle.walk.specs.declared.Ended.{Ended}
 use Rattle.walk.specs.Entries.{entry_need}
 use Rattle.walk.specs.Walk.{begun_for, held_of, taken_for, grown_for, met_by, fed_by, fed_for, work_for, packet_at, ended_for}
 use Rattle.walk.proofs.Entries.{need_short, need_rest, need_long, need_most}

@@ -1,16 +1,15 @@
 -- What the bytes of an entry say, by how many there are, and how many may be taken at once. Assumes nothing.
-use Rattle.std.proofs.Common.{◌≡◌, ℕ, ◌+◌, ◌-◌, ◌<◌, ◌≤◌, min, Bool, true, false, eqb, ltb, ◌⊎◌, List, [], ◌∷◌, ◌++◌, length, take, drop, sym, refl, ap, ◌∙◌, inl, inr, ⊎_elim, arith, lit≤, length-append, length-drop, take-append-drop, length-take-le, ltb-false, ltb-true, le-ltb, lt-ltb, eqb-true}
+use Rattle.std.proofs.Common.{◌≡◌, ℕ, ◌+◌, ◌-◌, ◌<◌, ◌≤◌, min, Bool, true, false, eqb, List, ◌++◌, length, take, drop, sym, refl, ap, ◌∙◌, ⊎_elim, arith, lit≤, length-append, length-drop, le-ltb, lt-ltb, eqb-true}
 use borrow.Author.Tests.{eqb-false}
 use lib.Seq.{take-append-le, drop-append-le}
 use Rattle.laws.specs.Big.{big_of, number_at}
-use Rattle.laws.specs.Pick.{pick}
 use Rattle.fields.proofs.Reading.{number_in}
-use Rattle.cutting.specs.Records.{Steady, Good, Real}
+use Rattle.cutting.specs.Records.{Steady, Real}
 use Rattle.cutting.specs.declared.Sign.{Sign}
 use Rattle.cutting.specs.declared.Sign.TheVariants.{More, Whole, Wrong}
 use Rattle.cutting.proofs.Needs.{lt_or_le}
 use Rattle.recording.specs.Recording.{step_for, stated_at}
-use Rattle.recording.specs.declared.Step.TheVariants.{Entry, End, Refused}
+use Rattle.recording.specs.declared.Step.TheVariants.{Entry}
 use Rattle.recording.proofs.Answers.{step_end, step_past, step_long, step_cut, step_entry}
 use Rattle.walk.specs.Entries.{sign_of, entry_says, entry_need}
 

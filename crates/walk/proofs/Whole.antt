@@ -1,17 +1,17 @@
 -- The cut of a recording's bytes is the walk of the recording: `next` gives the packets of the entries cut off, in order, and then what
 -- stands behind them, a refusal or the end. Assumes nothing.
-use Rattle.std.proofs.Common.{◌≡◌, ℕ, ◌+◌, ◌-◌, ◌<◌, ◌≤◌, Bool, true, false, ◌⊎◌, List, [], ◌∷◌, ◌++◌, length, take, drop, sym, refl, ap, ◌∙◌, subst, ap₂, ⊎_elim, append_assoc, append-nil, arith, lit<, lit≤, length-append, length-drop, take-append-drop, length-take-le, drop-drop, take_at, drop_at}
-use lib.Seq.{take-append-le, drop-append-le}
+use Rattle.std.proofs.Common.{◌≡◌, ℕ, ◌+◌, ◌-◌, ◌≤◌, List, [], ◌∷◌, ◌++◌, length, take, drop, sym, refl, ap, ◌∙◌, subst, ⊎_elim, append_assoc, append-nil, arith, lit<, length-append, length-drop, take-append-drop, length-take-le, drop-drop, take_at, drop_at}
+use lib.Seq.{drop-append-le}
 use Rattle.laws.specs.Big.{big_of, number_at}
 use Rattle.fields.proofs.Reading.{number_in}
-use Rattle.cutting.specs.Cutting.{Cut, waiting, joined, by, cut_from, cut_of, all_of}
+use Rattle.cutting.specs.Cutting.{Cut, by, cut_from, cut_of, all_of}
 use Rattle.cutting.specs.Records.{Good, AllGood, Begun}
 use Rattle.cutting.specs.declared.Sign.{Sign}
 use Rattle.cutting.specs.declared.Sign.TheVariants.{More, Whole, Wrong}
 use Rattle.cutting.proofs.Needs.{lt_or_le, records_good}
 use Rattle.recording.specs.Recording.{step_for, packet_for, packet_in}
 use Rattle.recording.specs.declared.Step.{Step}
-use Rattle.recording.specs.declared.Step.TheVariants.{Entry, End, Refused}
+use Rattle.recording.specs.declared.Step.TheVariants.{Entry, Refused}
 use Rattle.recording.proofs.Answers.{step_end, step_past, step_long, step_cut, step_entry}
 use Rattle.walk.specs.Entries.{entry_says}
 use Rattle.walk.specs.Whole.{WalksTo, packets_of, last_of}

@@ -1,6 +1,5 @@
 -- `answer_clock::stamp_at` meets its contract. Assumes nothing.
 use Rattle.answer_clock.proofs.Read.{stamp_is}
-use borrow.Author.Rules.{rules}
 use Rattle.answer_clock.proofs.stamp_at.Goals as goal
 
 pub returns : goal.returns

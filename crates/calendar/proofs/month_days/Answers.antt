@@ -3,7 +3,6 @@ use mathlib.Core.Bool.{true, false}
 use mathlib.Core.Path.{refl}
 use Rattle.calendar.specs.Calendar.{month_days}
 use Rattle.calendar.proofs.Days.{month_is}
-use borrow.Author.Rules.{rules}
 use Rattle.calendar.proofs.month_days.Goals as goal
 
 pub returns-then-long : goal.returns-then-long

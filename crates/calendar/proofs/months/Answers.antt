@@ -1,8 +1,6 @@
 -- `calendar::months` meets its contract. The invariant is that of `calendar::years`, for the months of one year. Assumes nothing.
-use Prim.Native.Nat.{◌+◌, ◌-◌, ◌≤◌, ◌<◌}
-use mathlib.Core.Path.{◌≡◌}
 use native.Mathlib.Omega.{arith}
-use Rattle.calendar.specs.Calendar.{month_days, days_of_months}
+use Rattle.calendar.specs.Calendar.{days_of_months}
 use Rattle.calendar.proofs.Days.{months_more, months_left}
 use Rattle.calendar.proofs.months.Goals as goal
 

@@ -1,9 +1,7 @@
 -- What the loop of `months` keeps, and how it ends. Assumes nothing.
 use Prim.Native.Nat.{◌+◌, ◌-◌, ◌≤◌, ◌<◌}
 use mathlib.Core.Path.{◌≡◌}
-use native.Mathlib.Omega.{arith}
 use Rattle.calendar.specs.Calendar.{month_days, days_of_months}
-use Rattle.calendar.proofs.Days.{months_more, months_left}
 use Rattle.calendar.proofs.months.Given as goal
 
 abbrev pub invariant-loop-size : goal.invariant-loop-size

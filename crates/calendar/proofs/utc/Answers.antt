@@ -1,6 +1,5 @@
 -- `calendar::utc` meets its contract. Assumes nothing.
 use Rattle.calendar.proofs.Parts.{months_fit, put_together}
-use borrow.Author.Rules.{rules}
 use Rattle.calendar.proofs.utc.Goals as goal
 
 pub months-m-requires : goal.months-m-requires

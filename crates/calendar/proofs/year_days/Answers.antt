@@ -1,6 +1,5 @@
 -- `calendar::year_days` meets its contract. Assumes nothing.
 use Rattle.calendar.proofs.Days.{days_leap, days_other}
-use borrow.Author.Rules.{rules}
 use Rattle.calendar.proofs.year_days.Goals as goal
 
 pub returns-then-is_leap : goal.returns-then-is_leap

@@ -1,10 +1,6 @@
 -- `calendar::years` meets its contract. The invariant: the years counted and the days left are all the days, and size is the next year's. Assumes nothing.
-use Prim.Native.Nat.{◌+◌, ◌*◌, ◌≤◌}
-use mathlib.Core.Path.{◌≡◌}
 use native.Mathlib.Nat.{div-add-mod'}
 use native.Mathlib.Omega.{arith}
-use borrow.Author.Rules.{rules}
-use Rattle.calendar.specs.Calendar.{year_days, days_of_years}
 use Rattle.calendar.proofs.Days.{years_start, years_more}
 use Rattle.calendar.proofs.years.Goals as goal
 

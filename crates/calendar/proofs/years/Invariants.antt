@@ -1,11 +1,7 @@
 -- What the loop of `years` keeps, and how it ends. Assumes nothing.
 use Prim.Native.Nat.{◌+◌, ◌*◌, ◌≤◌}
 use mathlib.Core.Path.{◌≡◌}
-use native.Mathlib.Nat.{div-add-mod'}
-use native.Mathlib.Omega.{arith}
-use borrow.Author.Rules.{rules}
 use Rattle.calendar.specs.Calendar.{year_days, days_of_years}
-use Rattle.calendar.proofs.Days.{years_start, years_more}
 use Rattle.calendar.proofs.years.Given as goal
 
 abbrev pub invariant-loop-size : goal.invariant-loop-size

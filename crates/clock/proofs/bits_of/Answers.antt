@@ -1,7 +1,6 @@
 -- `clock::bits_of` meets its contract. Assumes nothing.
 use native.Mathlib.Omega.{arith}
 use Rattle.clock.specs.Stamps.{bits_of}
-use borrow.Author.Rules.{rules}
 use Rattle.clock.proofs.bits_of.Goals as goal
 
 pub returns : goal.returns

@@ -1,6 +1,5 @@
 -- `clock::decode` meets its contract. Assumes nothing.
 use Rattle.clock.proofs.Answers.{decode_long, decode_length, decode_late, decode_done}
-use borrow.Author.Rules.{rules}
 use Rattle.clock.proofs.decode.Goals as goal
 
 pub returns-then-value-gt65528 : goal.returns-then-value-gt65528

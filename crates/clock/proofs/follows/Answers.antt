@@ -2,7 +2,6 @@
 use mathlib.Core.Path.{sym, ◌∙◌}
 use Rattle.clock.proofs.Answers.{follows_first, follows_second, follows_both}
 use Rattle.clock.proofs.Fit.{within}
-use borrow.Author.Rules.{rules}
 use Rattle.clock.proofs.follows.Goals as goal
 
 pub returns-then-first-ne0 : goal.returns-then-first-ne0

@@ -2,7 +2,6 @@
 use mathlib.Core.Path.{sym, ◌∙◌}
 use Rattle.clock.proofs.Answers.{next_fields, next_none, next_done}
 use Rattle.clock.proofs.Fit.{within}
-use borrow.Author.Rules.{rules}
 use Rattle.clock.proofs.next.Goals as goal
 
 pub returns-then-number-ne0 : goal.returns-then-number-ne0

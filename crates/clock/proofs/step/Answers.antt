@@ -1,6 +1,5 @@
 -- `clock::step` meets its contract. Assumes nothing.
 use Rattle.clock.proofs.Later.{turns}
-use borrow.Author.Rules.{rules}
 use Rattle.clock.proofs.step.Goals as goal
 
 pub returns-then-t-lt600 : goal.returns-then-t-lt600

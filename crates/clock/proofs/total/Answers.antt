@@ -2,7 +2,6 @@
 use mathlib.Core.Path.{refl}
 use native.Mathlib.Omega.{arith}
 use Rattle.clock.specs.Next.{elapsed}
-use borrow.Author.Rules.{rules}
 use Rattle.clock.proofs.total.Goals as goal
 
 pub returns : goal.returns

@@ -1,6 +1,5 @@
 -- `clock::utco_follows` meets its contract. Assumes nothing.
 use Rattle.clock.proofs.Answers.{utco_is}
-use borrow.Author.Rules.{rules}
 use Rattle.clock.proofs.utco_follows.Goals as goal
 
 pub returns : goal.returns

@@ -1,8 +1,7 @@
 -- What the loop of `crc16` keeps, and how it ends. Assumes nothing.
 use Prim.Native.Nat.{◌-◌}
-use native.Mathlib.Omega.{arith}
 use lib.ListN.{length}
-use Rattle.crc.proofs.Bytes.{Fed, fed_none, fed_one, fed_all}
+use Rattle.crc.proofs.Bytes.{Fed}
 use Rattle.crc.proofs.crc16.Given as goal
 
 abbrev pub invariant-loop-i : goal.invariant-loop-i

@@ -1,8 +1,6 @@
 -- `crc::crc8` meets its contract. Assumes nothing.
-use Prim.Native.Nat.{◌-◌}
 use native.Mathlib.Omega.{arith}
-use lib.ListN.{length}
-use Rattle.crc.proofs.Bytes.{Fed, fed_none, fed_one, fed_all}
+use Rattle.crc.proofs.Bytes.{fed_none, fed_one, fed_all}
 use Rattle.crc.proofs.crc8.Goals as goal
 
 pub loop-i-init : goal.loop-i-init

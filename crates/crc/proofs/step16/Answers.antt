@@ -1,12 +1,11 @@
 -- `crc::step16` meets its contract. Assumes nothing.
 use mathlib.Core.Path.{ap}
-use mathlib.Core.Logic.{⊎_elim}
-use Prim.Native.Nat.{◌-◌, ◌<◌}
+use Prim.Native.Nat.{◌<◌}
 use native.Mathlib.Nat.{mod-eq_of_lt}
 use native.Mathlib.Omega.{arith}
 use lib.Bits.{bit_xor}
 use Rattle.crc.proofs.Register.{register16}
-use Rattle.crc.proofs.Turns.{Turned, turned_none, turned_set, turned_clear, turned_all}
+use Rattle.crc.proofs.Turns.{turned_none, turned_set, turned_clear, turned_all}
 use Rattle.crc.proofs.step16.Goals as goal
 use Rattle.crc.proofs.step16.Goals.{then-c-ge32768, else-c-ge32768}
 

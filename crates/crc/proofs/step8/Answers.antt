@@ -1,12 +1,11 @@
 -- `crc::step8` meets its contract. Assumes nothing.
 use mathlib.Core.Path.{sym, ap}
-use mathlib.Core.Logic.{⊎_elim}
-use Prim.Native.Nat.{◌-◌, ◌<◌}
+use Prim.Native.Nat.{◌<◌}
 use native.Mathlib.Nat.{mul-one}
 use native.Mathlib.Omega.{arith}
 use lib.Bits.{bit_xor}
 use Rattle.crc.proofs.Register.{register8}
-use Rattle.crc.proofs.Turns.{Turned, turned_none, turned_set, turned_clear, turned_all}
+use Rattle.crc.proofs.Turns.{turned_none, turned_set, turned_clear, turned_all}
 use Rattle.crc.proofs.step8.Goals as goal
 use Rattle.crc.proofs.step8.Goals.{then-c-ge128, else-c-ge128}
 

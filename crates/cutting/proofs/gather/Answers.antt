@@ -1,7 +1,6 @@
 -- `cutting::gather` meets its contract. Assumes nothing.
 use mathlib.Core.Path.{sym}
 use lib.Seq.{length-take-le}
-use borrow.Author.Rules.{rules}
 use Rattle.cutting.proofs.gather.Goals as goal
 
 pub slice_bounds-copy-end : goal.slice_bounds-copy-end

@@ -1,5 +1,4 @@
 -- `description::first` meets its contract. Assumes nothing.
-use borrow.Author.Rules.{rules}
 use Rattle.description.proofs.Pieces.{first_none, first_some}
 use Rattle.description.proofs.first.Goals as goal
 

@@ -1,5 +1,4 @@
 -- `description::of_value` meets its contract. Assumes nothing.
-use borrow.Author.Rules.{rules}
 use Rattle.description.proofs.Pieces.{described}
 use Rattle.description.proofs.of_value.Goals as goal
 

@@ -1,7 +1,6 @@
 -- `description::put_lengths` meets its contract. Assumes nothing.
 use native.Mathlib.Omega.{arith}
 use lib.ListN.{length-set}
-use borrow.Author.Rules.{rules}
 use Rattle.description.proofs.Pieces.{lengths_put}
 use Rattle.description.proofs.put_lengths.Goals as goal
 

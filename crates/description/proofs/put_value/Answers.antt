@@ -1,10 +1,7 @@
 -- `description::put_value` meets its contract. Assumes nothing.
 use mathlib.Core.Path.{◌≡◌, refl, sym, ◌∙◌}
-use Prim.Native.Nat.{◌+◌, ◌-◌, ◌≤◌}
 use native.Mathlib.Omega.{arith}
-use lib.ListN.{length, take, length-set}
-use borrow.Author.Rules.{rules}
-use Rattle.laws.specs.Written.{written}
+use lib.ListN.{length, length-set}
 use Rattle.laws.proofs.Written.{written_none}
 use Rattle.description.specs.Bytes.{stream_bytes}
 use Rattle.description.proofs.Writing.{stream_turn, value_written}

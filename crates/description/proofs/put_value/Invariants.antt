@@ -1,14 +1,9 @@
 -- What the loop of `put_value` keeps, and how it ends. Assumes nothing.
-use mathlib.Core.Path.{◌≡◌, refl, sym, ◌∙◌}
+use mathlib.Core.Path.{◌≡◌}
 use Prim.Native.Nat.{◌+◌, ◌-◌, ◌≤◌}
-use native.Mathlib.Omega.{arith}
-use lib.ListN.{length, take, length-set}
-use borrow.Author.Rules.{rules}
+use lib.ListN.{length, take}
 use Rattle.laws.specs.Written.{written}
-use Rattle.laws.proofs.Written.{written_none}
 use Rattle.description.specs.Bytes.{stream_bytes}
-use Rattle.description.proofs.Writing.{stream_turn, value_written}
-use Rattle.description.proofs.Tests.{sized}
 use Rattle.description.proofs.put_value.Given as goal
 
 abbrev pub invariant-loop-i : goal.invariant-loop-i

@@ -1,5 +1,4 @@
 -- `description::rest` meets its contract. Assumes nothing.
-use borrow.Author.Rules.{rules}
 use Rattle.description.proofs.Ways.{no_rest, all_rest}
 use Rattle.description.proofs.rest.Goals as goal
 

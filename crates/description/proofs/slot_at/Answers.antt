@@ -1,5 +1,4 @@
 -- `description::slot_at` meets its contract. Assumes nothing.
-use borrow.Author.Rules.{rules}
 use Rattle.description.proofs.Pieces.{slot_none, slot_some}
 use Rattle.description.proofs.slot_at.Goals as goal
 

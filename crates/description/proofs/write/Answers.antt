@@ -1,6 +1,5 @@
 -- `description::write` meets its contract. Assumes nothing.
 use native.Mathlib.Omega.{arith}
-use borrow.Author.Rules.{rules}
 use Rattle.description.proofs.Writing.{writable, write_refused, write_done}
 use Rattle.description.proofs.write.Goals as goal
 

@@ -1,9 +1,7 @@
 -- `description::write_entity` meets its contract. Assumes nothing.
-use mathlib.Core.Path.{◌∙◌}
 use native.Mathlib.Omega.{arith}
 use lib.ListN.{length-set}
 use borrow.Author.Tests.{ltb-false}
-use borrow.Author.Rules.{rules}
 use Rattle.description.proofs.Writing.{writable, entity_refused, entity_done}
 use Rattle.description.proofs.write_entity.Goals as goal
 

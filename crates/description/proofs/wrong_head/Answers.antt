@@ -1,5 +1,4 @@
 -- `description::wrong_head` meets its contract. Assumes nothing.
-use borrow.Author.Rules.{rules}
 use Rattle.description.proofs.Ways.{head_is}
 use Rattle.description.proofs.wrong_head.Goals as goal
 

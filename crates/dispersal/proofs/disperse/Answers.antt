@@ -1,10 +1,7 @@
 -- `dispersal::disperse` meets its contract. The invariant: the first i bytes of the output are those of the dispersed input, the
-use mathlib.Core.Path.{◌≡◌, refl, sym, ap, ◌∙◌}
-use Prim.Native.Nat.{◌-◌, ◌/◌, ◌%◌, ◌≤◌}
+use mathlib.Core.Path.{refl, sym, ap, ◌∙◌}
 use native.Mathlib.Omega.{arith}
-use lib.ListN.{length, take, length-set}
-use borrow.Author.Rules.{rules}
-use Rattle.laws.specs.Written.{written}
+use lib.ListN.{length-set}
 use Rattle.laws.proofs.Written.{written_none, written_front}
 use Rattle.dispersal.specs.Dispersal.{push, next, ones, dispersed}
 use Rattle.dispersal.proofs.Answers.{too_long, too_short, done}

@@ -1,14 +1,10 @@
 -- What the loop of `disperse` keeps, and how it ends. Assumes nothing.
-use mathlib.Core.Path.{◌≡◌, refl, sym, ap, ◌∙◌}
+use mathlib.Core.Path.{◌≡◌}
 use Prim.Native.Nat.{◌-◌, ◌/◌, ◌%◌, ◌≤◌}
-use native.Mathlib.Omega.{arith}
-use lib.ListN.{length, take, length-set}
-use borrow.Author.Rules.{rules}
+use lib.ListN.{length, take}
 use Rattle.laws.specs.Written.{written}
-use Rattle.laws.proofs.Written.{written_none, written_front}
 use Rattle.dispersal.specs.Dispersal.{push, next, ones, dispersed}
-use Rattle.dispersal.proofs.Answers.{too_long, too_short, done}
-use Rattle.dispersal.proofs.Sequence.{after, after_one, byte_at, length_dispersed}
+use Rattle.dispersal.proofs.Sequence.{after}
 use Rattle.dispersal.proofs.disperse.Given as goal
 
 abbrev pub invariant-loop-i : goal.invariant-loop-i

@@ -1,6 +1,5 @@
 -- `dispersal::eight_more` meets its contract. Assumes nothing.
 use mathlib.Core.Path.{refl}
-use native.Mathlib.Omega.{arith}
 use Rattle.dispersal.proofs.Register.{stepped}
 use Rattle.dispersal.proofs.eight_more.Goals as goal
 

@@ -1,6 +1,5 @@
 -- `fac::is_sealed` meets its contract. Assumes nothing.
 use Rattle.fac.proofs.Ways.{seal_short, seal_is}
-use borrow.Author.Rules.{rules}
 use Rattle.fac.proofs.is_sealed.Goals as goal
 
 pub returns-then-value-lt9 : goal.returns-then-value-lt9

@@ -1,6 +1,5 @@
 -- `fac::of_value` meets its contract. Assumes nothing.
 use Rattle.fac.specs.Channel.{fac_of}
-use borrow.Author.Rules.{rules}
 use Rattle.fac.proofs.of_value.Goals as goal
 
 pub returns : goal.returns

@@ -1,6 +1,5 @@
 -- `fac::put` meets its contract. Assumes nothing.
 use Rattle.fac.proofs.Ways.{two_halves, sealed_on}
-use borrow.Author.Rules.{rules}
 use Rattle.fac.proofs.put.Goals as goal
 
 pub returns : goal.returns

@@ -1,6 +1,5 @@
 -- `fac::read` meets its contract. Assumes nothing.
 use Rattle.fac.proofs.Ways.{answering}
-use borrow.Author.Rules.{rules}
 use Rattle.fac.proofs.read.Goals as goal
 
 pub returns-then-number-ne0 : goal.returns-then-number-ne0

@@ -1,6 +1,5 @@
 -- `fac::read_number` meets its contract. Assumes nothing.
 use Rattle.fac.proofs.Ways.{reading}
-use borrow.Author.Rules.{rules}
 use Rattle.fac.proofs.read_number.Goals as goal
 
 pub returns-then-value-gt65528 : goal.returns-then-value-gt65528

@@ -1,7 +1,6 @@
 -- `fac::split` meets its contract. Assumes nothing.
 use Rattle.fac.specs.Channel.{fac_from}
 use native.Mathlib.Nat.{div-one}
-use borrow.Author.Rules.{rules}
 use Rattle.fac.proofs.split.Goals as goal
 
 pub returns : goal.returns

@@ -1,6 +1,5 @@
 -- `fac::write` meets its contract. Assumes nothing.
 use Rattle.fac.proofs.Ways.{ready, write_refused, write_done}
-use borrow.Author.Rules.{rules}
 use Rattle.fac.proofs.write.Goals as goal
 
 pub returns-then-number-ne0 : goal.returns-then-number-ne0

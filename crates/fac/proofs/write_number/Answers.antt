@@ -1,6 +1,5 @@
 -- `fac::write_number` meets its contract. Assumes nothing.
 use Rattle.fac.proofs.Ways.{writing}
-use borrow.Author.Rules.{rules}
 use Rattle.fac.proofs.write_number.Goals as goal
 
 pub returns-then-too_large : goal.returns-then-too_large

@@ -1,10 +1,7 @@
 -- `fields::read` meets its contract. The loop's invariant: r is the number of the i bytes passed. Assumes nothing.
 use mathlib.Core.Path.{◌≡◌, sym}
-use Prim.Native.Nat.{◌-◌, ◌*◌, ◌^◌, ◌≤◌, ◌<◌}
 use native.Mathlib.Omega.{arith}
-use borrow.Author.Rules.{rules}
 use lib.Dec.{lit<}
-use Rattle.laws.specs.Big.{number_at}
 use Rattle.fields.proofs.Reading.{read_out, number_none, number_more, bits_more, bits_room}
 use Rattle.fields.proofs.read.Goals as goal
 

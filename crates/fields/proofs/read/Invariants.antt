@@ -1,11 +1,7 @@
 -- What the loop of `read` keeps, and how it ends. Assumes nothing.
-use mathlib.Core.Path.{◌≡◌, sym}
+use mathlib.Core.Path.{◌≡◌}
 use Prim.Native.Nat.{◌-◌, ◌*◌, ◌^◌, ◌≤◌, ◌<◌}
-use native.Mathlib.Omega.{arith}
-use borrow.Author.Rules.{rules}
-use lib.Dec.{lit<}
 use Rattle.laws.specs.Big.{number_at}
-use Rattle.fields.proofs.Reading.{read_out, number_none, number_more, bits_more, bits_room}
 use Rattle.fields.proofs.read.Given as goal
 
 abbrev pub invariant-loop-i : goal.invariant-loop-i

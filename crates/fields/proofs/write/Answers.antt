@@ -1,8 +1,7 @@
 -- `fields::write` meets its contract. The loop's invariant: the low i bytes of what is left of v, written, give what all of v gives.
 use mathlib.Core.Path.{◌≡◌, refl, sym, ap, ◌∙◌}
-use Prim.Native.Nat.{ℕ, ◌+◌, ◌-◌, ◌≤◌}
+use Prim.Native.Nat.{ℕ, ◌+◌, ◌-◌}
 use native.Mathlib.Omega.{arith}
-use borrow.Author.Rules.{rules}
 use borrow.Author.Tests.{le-leb}
 use lib.ListN.{length, length-set}
 use Rattle.fields.specs.Numbers.{put_at}

@@ -1,12 +1,8 @@
 -- What the loop of `write` keeps, and how it ends. Assumes nothing.
-use mathlib.Core.Path.{◌≡◌, refl, sym, ap, ◌∙◌}
-use Prim.Native.Nat.{ℕ, ◌+◌, ◌-◌, ◌≤◌}
-use native.Mathlib.Omega.{arith}
-use borrow.Author.Rules.{rules}
-use borrow.Author.Tests.{le-leb}
-use lib.ListN.{length, length-set}
+use mathlib.Core.Path.{◌≡◌}
+use Prim.Native.Nat.{◌≤◌}
+use lib.ListN.{length}
 use Rattle.fields.specs.Numbers.{put_at}
-use Rattle.fields.proofs.Writing.{write_out, put_none, put_last}
 use Rattle.fields.proofs.write.Given as goal
 
 abbrev pub invariant-loop-i : goal.invariant-loop-i

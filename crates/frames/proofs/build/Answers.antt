@@ -1,5 +1,4 @@
 -- `frames::build` meets its contract. Assumes nothing.
-use lib.ListN.{length-map}
 use borrow.Author.Rules.{rules}
 use Rattle.frames.proofs.Building.{ready_of, within, build_refused, build_done}
 use Rattle.frames.proofs.build.Goals as goal

@@ -1,6 +1,5 @@
 -- `frames::cut` meets its contract. Assumes nothing.
 use lib.Dec.{lit<}
-use lib.ListN.{length-map}
 use borrow.Author.Rules.{rules}
 use Rattle.frames.proofs.Cutting.{out_fits, parts_of_law, cut_refused, kept, cut_done, cut_out}
 use Rattle.frames.proofs.cut.Goals as goal

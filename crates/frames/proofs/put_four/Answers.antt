@@ -1,5 +1,4 @@
 -- `frames::put_four` meets its contract. Assumes nothing.
-use borrow.Author.Rules.{rules}
 use Rattle.frames.proofs.Putting.{four_put}
 use Rattle.frames.proofs.put_four.Goals as goal
 

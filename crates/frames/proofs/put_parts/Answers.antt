@@ -1,6 +1,6 @@
 -- `frames::put_parts` meets its contract. Assumes nothing.
 use mathlib.Core.Path.{◌≡◌, refl, sym, ◌∙◌}
-use lib.ListN.{length, length-map}
+use lib.ListN.{length}
 use lib.Seq.{length-take-le}
 use Rattle.frames.proofs.Putting.{starts, room_a, room_b, parts_put}
 use borrow.Author.Rules.{rules}

@@ -1,5 +1,4 @@
 -- `frames::take_out` meets its contract. Assumes nothing.
-use borrow.Author.Rules.{rules}
 use Rattle.frames.proofs.Cutting.{taken_out}
 use Rattle.frames.proofs.take_out.Goals as goal
 

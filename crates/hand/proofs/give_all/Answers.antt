@@ -1,9 +1,7 @@
 -- `hand::give_all` meets its contract. Assumes nothing.
-use mathlib.Core.Path.{◌≡◌, sym}
-use Prim.Native.Nat.{◌≤◌, ◌-◌, zero-le}
+use mathlib.Core.Path.{sym}
+use Prim.Native.Nat.{zero-le}
 use native.Mathlib.Omega.{arith}
-use borrow.Author.Rules.{rules}
-use Rattle.hand.specs.Hand.{spread}
 use Rattle.hand.proofs.Steps.{spread_none}
 use Rattle.hand.proofs.Ways.{spread_more, spread_done}
 use Rattle.hand.proofs.give_all.Goals as goal

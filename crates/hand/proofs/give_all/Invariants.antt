@@ -1,11 +1,7 @@
 -- What the loop of `give_all` keeps, and how it ends. Assumes nothing.
-use mathlib.Core.Path.{◌≡◌, sym}
-use Prim.Native.Nat.{◌≤◌, ◌-◌, zero-le}
-use native.Mathlib.Omega.{arith}
-use borrow.Author.Rules.{rules}
+use mathlib.Core.Path.{◌≡◌}
+use Prim.Native.Nat.{◌≤◌, ◌-◌}
 use Rattle.hand.specs.Hand.{spread}
-use Rattle.hand.proofs.Steps.{spread_none}
-use Rattle.hand.proofs.Ways.{spread_more, spread_done}
 use Rattle.hand.proofs.give_all.Given as goal
 
 abbrev pub invariant-loop-k : goal.invariant-loop-k

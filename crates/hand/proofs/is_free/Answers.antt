@@ -1,5 +1,4 @@
 -- `hand::is_free` meets its contract. Assumes nothing.
-use borrow.Author.Rules.{rules}
 use Rattle.hand.proofs.Ways.{free_is}
 use Rattle.hand.proofs.is_free.Goals as goal
 

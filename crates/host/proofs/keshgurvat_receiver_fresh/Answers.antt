@@ -1,5 +1,4 @@
 -- `host::keshgurvat_receiver_fresh` meets its contract. Assumes nothing. Written out for the edits' sake, as the sender's.
-use borrow.Author.Rules.{rules}
 use Rattle.receiver.specs.Receiver.{fresh}
 use Rattle.host.proofs.keshgurvat_receiver_fresh.Goals as goal
 

@@ -3,7 +3,6 @@ use native.Mathlib.Omega.{arith}
 use Rattle.inspect_text.proofs.Breaks.{break_none, break_some}
 use Rattle.moves.proofs.Pieces.{puts_then}
 use Rattle.line_text.proofs.Room.{fit}
-use borrow.Author.Rules.{rules}
 use Rattle.inspect_text.proofs.broken.Goals as goal
 
 pub returns-then-v : goal.returns-then-v

@@ -5,7 +5,6 @@ use Rattle.stamp_text.proofs.Ways.{dated_by}
 use Rattle.inspect_text.proofs.Ways.{line_refused, line_read}
 use Rattle.moves.proofs.Pieces.{puts_then}
 use Rattle.line_text.proofs.Room.{fit}
-use borrow.Author.Rules.{rules}
 use Rattle.inspect_text.proofs.line.Goals as goal
 
 pub returns-then-x-ne0 : goal.returns-then-x-ne0

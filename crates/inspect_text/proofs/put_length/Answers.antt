@@ -7,7 +7,6 @@ use Rattle.line_text.specs.Decimal.{ascii, decimal}
 use Rattle.inspect_text.proofs.Ways.{length_none, length_some}
 use Rattle.moves.proofs.Pieces.{puts_same}
 use Rattle.line_text.proofs.Room.{fit}
-use borrow.Author.Rules.{rules}
 use Rattle.inspect_text.proofs.put_length.Goals as goal
 
 pub returns-then-count-i : goal.returns-then-count-i

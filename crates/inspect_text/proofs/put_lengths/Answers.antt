@@ -2,7 +2,6 @@
 use native.Mathlib.Omega.{arith}
 use Rattle.inspect_text.specs.Inspect.{lengths_text}
 use Rattle.moves.proofs.Pieces.{puts_then}
-use borrow.Author.Rules.{rules}
 use Rattle.inspect_text.proofs.put_lengths.Goals as goal
 
 pub returns : goal.returns

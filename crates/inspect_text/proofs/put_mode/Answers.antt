@@ -2,7 +2,6 @@
 use native.Mathlib.Omega.{arith}
 use Rattle.inspect_text.specs.Inspect.{mode_text}
 use Rattle.line_text.proofs.Room.{fit}
-use borrow.Author.Rules.{rules}
 use Rattle.inspect_text.proofs.put_mode.Goals as goal
 
 pub returns : goal.returns

@@ -3,7 +3,6 @@ use native.Mathlib.Omega.{arith}
 use Rattle.inspect_text.specs.Break.{raw_stamp_text}
 use Rattle.moves.proofs.Pieces.{puts_then}
 use Rattle.line_text.proofs.Room.{fit}
-use borrow.Author.Rules.{rules}
 use Rattle.inspect_text.proofs.put_raw_stamp.Goals as goal
 
 pub returns : goal.returns

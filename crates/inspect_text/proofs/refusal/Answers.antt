@@ -2,7 +2,6 @@
 use native.Mathlib.Omega.{arith}
 use Rattle.inspect_text.specs.Inspect.{refused_text}
 use Rattle.line_text.proofs.Room.{fit}
-use borrow.Author.Rules.{rules}
 use Rattle.inspect_text.proofs.refusal.Goals as goal
 
 pub returns : goal.returns

@@ -1,6 +1,5 @@
 -- `items::size_at` meets its contract. Assumes nothing.
 use Rattle.items.proofs.Passes.{sizes}
-use borrow.Author.Rules.{rules}
 use Rattle.items.proofs.size_at.Goals as goal
 
 pub returns-then-len-lt8 : goal.returns-then-len-lt8

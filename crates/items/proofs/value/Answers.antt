@@ -1,7 +1,6 @@
 -- `items::value` meets its contract. Assumes nothing.
 use native.Mathlib.Omega.{arith}
 use Rattle.items.proofs.Passes.{value_out, value_in}
-use borrow.Author.Rules.{rules}
 use Rattle.items.proofs.value.Goals as goal
 
 pub returns-then-s-size : goal.returns-then-s-size

@@ -1,9 +1,7 @@
 -- `items::walk` meets its contract. Assumes nothing.
-use Prim.Native.Nat.{◌-◌}
-use lib.ListN.{length}
 use borrow.Author.Rules.{rules}
 use native.Mathlib.Omega.{arith}
-use Rattle.items.proofs.Passes.{Walking, walking_first, walking_done, walking_more, walking_room}
+use Rattle.items.proofs.Passes.{walking_first, walking_done, walking_more, walking_room}
 use Rattle.items.proofs.walk.Goals as goal
 
 pub loop-at-init : goal.loop-at-init

@@ -1,9 +1,7 @@
 -- What the loop of `walk` keeps, and how it ends. Assumes nothing.
 use Prim.Native.Nat.{◌-◌}
 use lib.ListN.{length}
-use borrow.Author.Rules.{rules}
-use native.Mathlib.Omega.{arith}
-use Rattle.items.proofs.Passes.{Walking, walking_first, walking_done, walking_more, walking_room}
+use Rattle.items.proofs.Passes.{Walking}
 use Rattle.items.proofs.walk.Given as goal
 
 abbrev pub invariant-loop-at : goal.invariant-loop-at

@@ -1,6 +1,5 @@
 -- `mdi::agree` meets its contract. Assumes nothing.
 use Rattle.mdi.proofs.Values.{agree_is}
-use borrow.Author.Rules.{rules}
 use Rattle.mdi.proofs.agree.Goals as goal
 
 pub returns : goal.returns

@@ -1,6 +1,5 @@
 -- `mdi::bad_fac` meets its contract. Assumes nothing.
 use Rattle.mdi.proofs.Values.{fac_at}
-use borrow.Author.Rules.{rules}
 use Rattle.mdi.proofs.bad_fac.Goals as goal
 
 pub returns : goal.returns

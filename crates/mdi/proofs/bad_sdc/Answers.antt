@@ -1,6 +1,5 @@
 -- `mdi::bad_sdc` meets its contract. Assumes nothing.
 use Rattle.mdi.proofs.Values.{sdc_at}
-use borrow.Author.Rules.{rules}
 use Rattle.mdi.proofs.bad_sdc.Goals as goal
 
 pub returns : goal.returns

@@ -1,6 +1,5 @@
 -- `mdi::bad_value` meets its contract. Assumes nothing.
 use Rattle.mdi.proofs.Values.{value_at}
-use borrow.Author.Rules.{rules}
 use Rattle.mdi.proofs.bad_value.Goals as goal
 
 pub returns : goal.returns

@@ -1,6 +1,5 @@
 -- `mdi::check` meets its contract. Assumes nothing.
 use Rattle.mdi.proofs.Checks.{way_1, way_2, way_3, way_on, way_done, spots_of_law}
-use borrow.Author.Rules.{rules}
 use Rattle.mdi.proofs.check.Goals as goal
 
 pub returns-then-packet-gt65528 : goal.returns-then-packet-gt65528

@@ -1,7 +1,6 @@
 -- `mdi::check_contents` meets its contract. Assumes nothing.
 use Rattle.mdi.proofs.Values.{served_at, description_at, streams_at}
 use Rattle.mdi.proofs.Checks.{no_9, no_10, no_11, no_0}
-use borrow.Author.Rules.{rules}
 use Rattle.mdi.proofs.check_contents.Goals as goal
 
 pub returns-then-is_there-not_served : goal.returns-then-is_there-not_served

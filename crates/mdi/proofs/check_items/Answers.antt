@@ -1,6 +1,5 @@
 -- `mdi::check_items` meets its contract. Assumes nothing.
 use Rattle.mdi.proofs.Checks.{no_4, no_5, no_6, no_7, no_8, no_more}
-use borrow.Author.Rules.{rules}
 use Rattle.mdi.proofs.check_items.Goals as goal
 
 pub returns-then-missing : goal.returns-then-missing

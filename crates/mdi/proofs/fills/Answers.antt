@@ -1,6 +1,5 @@
 -- `mdi::fills` meets its contract. Assumes nothing.
 use Rattle.mdi.proofs.Values.{fills_is}
-use borrow.Author.Rules.{rules}
 use Rattle.mdi.proofs.fills.Goals as goal
 
 pub returns : goal.returns

@@ -1,6 +1,5 @@
 -- `mdi::first` meets its contract. Assumes nothing.
 use Rattle.mdi.proofs.Ways.{first_none}
-use borrow.Author.Rules.{rules}
 use Rattle.mdi.proofs.first.Goals as goal
 
 pub returns-then-v-eq0 : goal.returns-then-v-eq0

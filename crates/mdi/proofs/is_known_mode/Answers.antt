@@ -2,7 +2,6 @@
 use Rattle.mdi.specs.Conditions.{known_mode}
 use mathlib.Core.Path.{refl}
 use Rattle.mdi.proofs.Values.{mode_none}
-use borrow.Author.Rules.{rules}
 use Rattle.mdi.proofs.is_known_mode.Goals as goal
 
 pub returns-then-v-eq0 : goal.returns-then-v-eq0

@@ -1,6 +1,5 @@
 -- `mdi::is_on_time` meets its contract. Assumes nothing.
 use Rattle.mdi.proofs.Values.{time_is}
-use borrow.Author.Rules.{rules}
 use Rattle.mdi.proofs.is_on_time.Goals as goal
 
 pub returns : goal.returns

@@ -2,7 +2,6 @@
 use native.Mathlib.Omega.{arith}
 use Rattle.laws.specs.Big.{number_at, big_of}
 use Rattle.mdi.proofs.Values.{protocol_is}
-use borrow.Author.Rules.{rules}
 use Rattle.mdi.proofs.is_protocol.Goals as goal
 
 -- the four letters are the first four bytes of an opening

@@ -1,6 +1,5 @@
 -- `mdi::read` meets its contract. Assumes nothing.
 use Rattle.mdi.proofs.Ways.{read_no, spots_are, read_yes}
-use borrow.Author.Rules.{rules}
 use Rattle.mdi.proofs.read.Goals as goal
 
 pub returns-then-number-ne0 : goal.returns-then-number-ne0

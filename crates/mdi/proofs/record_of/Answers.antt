@@ -1,6 +1,5 @@
 -- `mdi::record_of` meets its contract. Assumes nothing.
 use Rattle.mdi.proofs.Ways.{record_is, time_spot}
-use borrow.Author.Rules.{rules}
 use Rattle.mdi.proofs.record_of.Goals as goal
 
 pub time_of-time-requires : goal.time_of-time-requires

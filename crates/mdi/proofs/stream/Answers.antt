@@ -1,6 +1,5 @@
 -- `mdi::stream` meets its contract. Assumes nothing.
 use Rattle.mdi.proofs.Ways.{stream_no, stream_over, stream_row}
-use borrow.Author.Rules.{rules}
 use Rattle.mdi.proofs.stream.Goals as goal
 
 pub returns-then-v-ne0 : goal.returns-then-v-ne0

@@ -1,6 +1,5 @@
 -- `mdi::time_of` meets its contract. Assumes nothing.
 use Rattle.mdi.proofs.Ways.{time_none, time_some}
-use borrow.Author.Rules.{rules}
 use Rattle.mdi.proofs.time_of.Goals as goal
 
 pub returns-then-x-eq0 : goal.returns-then-x-eq0

@@ -1,6 +1,5 @@
 -- `mdi_spots::bad_length` meets its contract. Assumes nothing.
 use Rattle.mdi_spots.proofs.Ways.{length_at}
-use borrow.Author.Rules.{rules}
 use Rattle.mdi_spots.proofs.bad_length.Goals as goal
 
 pub returns : goal.returns

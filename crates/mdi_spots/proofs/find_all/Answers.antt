@@ -4,7 +4,6 @@ use Rattle.tag_spots.specs.Rows.{key_at, keys_of}
 use mathlib.Core.Path.{refl}
 use native.Mathlib.Omega.{arith}
 use Rattle.mdi_spots.proofs.Ways.{found}
-use borrow.Author.Rules.{rules}
 use Rattle.mdi_spots.proofs.find_all.Goals as goal
 
 pub returns : goal.returns

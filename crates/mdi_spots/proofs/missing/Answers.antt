@@ -1,6 +1,5 @@
 -- `mdi_spots::missing` meets its contract. Assumes nothing.
 use Rattle.mdi_spots.proofs.Ways.{missing_at}
-use borrow.Author.Rules.{rules}
 use Rattle.mdi_spots.proofs.missing.Goals as goal
 
 pub returns : goal.returns

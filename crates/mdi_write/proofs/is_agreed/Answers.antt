@@ -1,7 +1,6 @@
 -- `mdi_write::is_agreed` meets its contract. Assumes nothing.
 use Rattle.description.proofs.Tests.{sized}
 use Rattle.mdi_write.proofs.Values.{four_said}
-use borrow.Author.Rules.{rules}
 use Rattle.mdi_write.proofs.is_agreed.Goals as goal
 
 pub returns : goal.returns

@@ -1,6 +1,5 @@
 -- `mdi_write::is_bad` meets its contract. Assumes nothing.
 use Rattle.mdi_write.proofs.Values.{bad_none, bad_some}
-use borrow.Author.Rules.{rules}
 use Rattle.mdi_write.proofs.is_bad.Goals as goal
 
 pub returns-in-Absent : goal.returns-in-Absent

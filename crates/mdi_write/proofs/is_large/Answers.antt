@@ -1,6 +1,5 @@
 -- `mdi_write::is_large` meets its contract. Assumes nothing.
 use Rattle.mdi_write.proofs.Numbers.{large_is}
-use borrow.Author.Rules.{rules}
 use Rattle.mdi_write.proofs.is_large.Goals as goal
 
 pub returns : goal.returns

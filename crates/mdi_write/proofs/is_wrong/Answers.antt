@@ -1,6 +1,5 @@
 -- `mdi_write::is_wrong` meets its contract. Assumes nothing.
 use Rattle.mdi_write.proofs.Values.{stamp_wrong}
-use borrow.Author.Rules.{rules}
 use Rattle.mdi_write.proofs.is_wrong.Goals as goal
 
 pub returns : goal.returns

@@ -1,6 +1,5 @@
 -- `mdi_write::item_size` meets its contract. Assumes nothing.
 use Rattle.mdi_write.proofs.Values.{size_none, size_some}
-use borrow.Author.Rules.{rules}
 use Rattle.mdi_write.proofs.item_size.Goals as goal
 
 pub returns-then-n-eq0 : goal.returns-then-n-eq0

@@ -1,6 +1,5 @@
 -- `mdi_write::packet_size` meets its contract. Assumes nothing.
 use Rattle.mdi_write.proofs.Values.{size_sum}
-use borrow.Author.Rules.{rules}
 use Rattle.mdi_write.proofs.packet_size.Goals as goal
 
 pub returns : goal.returns

@@ -3,7 +3,6 @@ use Rattle.laws.proofs.Big.{bytes_length}
 use lib.Dec.{lit<}
 use native.Mathlib.Omega.{arith}
 use Rattle.mdi_write.proofs.Values.{any_room, count_value, any_put}
-use borrow.Author.Rules.{rules}
 use Rattle.mdi_write.proofs.put_count.Goals as goal
 
 pub put_item-requires : goal.put_item-requires

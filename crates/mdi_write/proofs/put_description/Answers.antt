@@ -5,7 +5,6 @@ use Rattle.description.proofs.Tests.{sized}
 use native.Mathlib.Omega.{arith}
 use lib.Dec.{lit<}
 use Rattle.mdi_write.proofs.Values.{description_length, description_value, any_room, any_put, value_size_law, few}
-use borrow.Author.Rules.{rules}
 use Rattle.mdi_write.proofs.put_description.Goals as goal
 
 pub slice_bounds-put_item-end : goal.slice_bounds-put_item-end

@@ -3,7 +3,6 @@ use Rattle.mdi_write.proofs.Values.{mode_fits, mode_served}
 use lib.Dec.{lit≤, lit<}
 use Rattle.mdi_write.specs.Packet.{head_values}
 use Rattle.mdi_write.proofs.Laying.{row_first, row_room, row_next, row_done, no_more}
-use borrow.Author.Rules.{rules}
 use Rattle.mdi_write.proofs.put_head.Goals as goal
 
 pub put_item-a-requires : goal.put_item-a-requires

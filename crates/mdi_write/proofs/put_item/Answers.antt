@@ -5,7 +5,6 @@ use Rattle.moves.specs.Moves.{placed}
 use Rattle.mdi_spots.specs.Table.{table, names_of}
 use lib.ListN.{length}
 use Rattle.mdi_write.proofs.Values.{item_none, item_some, name_is, four_at}
-use borrow.Author.Rules.{rules}
 use Rattle.mdi_write.proofs.put_item.Goals as goal
 
 pub returns-then-n-eq0 : goal.returns-then-n-eq0

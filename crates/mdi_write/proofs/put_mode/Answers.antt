@@ -1,6 +1,5 @@
 -- `mdi_write::put_mode` meets its contract. Assumes nothing.
 use lib.Dec.{lit≤, lit<}
-use borrow.Author.Rules.{rules}
 use Rattle.mdi_write.proofs.put_mode.Goals as goal
 
 pub put_item-requires : goal.put_item-requires

@@ -2,7 +2,6 @@
 use native.Mathlib.Omega.{arith}
 use lib.Dec.{lit<}
 use Rattle.mdi_write.proofs.Values.{sdc_value, any_room, any_put}
-use borrow.Author.Rules.{rules}
 use Rattle.mdi_write.proofs.put_sdc.Goals as goal
 
 pub put_item-requires : goal.put_item-requires

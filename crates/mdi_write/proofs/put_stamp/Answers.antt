@@ -3,7 +3,6 @@ use Rattle.clock.proofs.Back.{value_length_law}
 use lib.Dec.{lit<}
 use native.Mathlib.Omega.{arith}
 use Rattle.mdi_write.proofs.Values.{any_room, stamp_value, any_put}
-use borrow.Author.Rules.{rules}
 use Rattle.mdi_write.proofs.put_stamp.Goals as goal
 
 pub put_item-requires : goal.put_item-requires

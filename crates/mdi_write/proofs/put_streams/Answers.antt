@@ -2,7 +2,6 @@
 use lib.Dec.{lit≤, lit<}
 use Rattle.mdi_write.specs.Packet.{four, stream_values}
 use Rattle.mdi_write.proofs.Laying.{row_first, row_room, row_next, row_done, no_more, not_long}
-use borrow.Author.Rules.{rules}
 use Rattle.mdi_write.proofs.put_streams.Goals as goal
 
 pub put_item-a-requires : goal.put_item-a-requires

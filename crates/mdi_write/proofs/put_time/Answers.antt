@@ -1,6 +1,5 @@
 -- `mdi_write::put_time` meets its contract. Assumes nothing.
 use Rattle.mdi_write.proofs.Values.{time_none, time_ready, time_some}
-use borrow.Author.Rules.{rules}
 use Rattle.mdi_write.proofs.put_time.Goals as goal
 
 pub put_stamp-requires : goal.put_stamp-requires

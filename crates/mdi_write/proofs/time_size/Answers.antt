@@ -1,6 +1,5 @@
 -- `mdi_write::time_size` meets its contract. Assumes nothing.
 use Rattle.mdi_write.proofs.Values.{time_size_none, time_size_some}
-use borrow.Author.Rules.{rules}
 use Rattle.mdi_write.proofs.time_size.Goals as goal
 
 pub returns-in-Absent : goal.returns-in-Absent

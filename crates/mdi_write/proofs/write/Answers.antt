@@ -4,7 +4,6 @@ use mathlib.Core.Path.{refl, sym, ◌∙◌}
 use Rattle.mdi_write.specs.Packet.{four}
 use Rattle.mdi_write.proofs.Laying.{head_fits, streams_fit, time_fits, packet_written}
 use Rattle.mdi_write.proofs.Numbers.{fits_of, small_of, tested_of, write_refused, write_done}
-use borrow.Author.Rules.{rules}
 use Rattle.mdi_write.proofs.write.Goals as goal
 
 pub returns-then-number-ne0 : goal.returns-then-number-ne0

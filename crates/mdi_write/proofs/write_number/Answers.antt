@@ -3,7 +3,6 @@ use mathlib.Core.Path.{ap}
 use mathlib.Core.Bool.{not}
 use Rattle.mdi_write.specs.Packet.{four}
 use Rattle.mdi_write.proofs.Numbers.{w_1, w_5, w_6, w_9, w_10, w_11, w_late, w_0, size_ready}
-use borrow.Author.Rules.{rules}
 use Rattle.mdi_write.proofs.write_number.Goals as goal
 
 pub returns-then-is_long : goal.returns-then-is_long

@@ -1,8 +1,6 @@
 -- `meter::byte_at` meets its contract. Assumes nothing.
 use Rattle.meter.proofs.Ways.{get_or_out}
 use borrow.Author.Rules.{rules}
-use Rattle.meter.proofs.byte_at.Reads as reads
-use Rattle.meter.proofs.byte_at.Lts as lts
 use Rattle.meter.proofs.byte_at.Goals as goal
 
 pub returns-then-s-at : goal.returns-then-s-at

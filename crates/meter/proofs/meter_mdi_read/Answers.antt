@@ -1,10 +1,6 @@
 -- `meter::meter_mdi_read` meets its contract. Assumes nothing.
 use Rattle.meter.proofs.Ways.{seen_is}
 use borrow.Author.Rules.{rules}
-use Rattle.meter.proofs.meter_mdi_read.Reads as reads
-use Rattle.meter.proofs.meter_mdi_read.Lts as lts
-use Rattle.mdi.proofs.read.Reads as read-reads
-use Rattle.meter.proofs.byte_at.Reads as byte-at-reads
 use Rattle.meter.proofs.meter_mdi_read.Goals as goal
 
 pub returns : goal.returns

@@ -1,10 +1,8 @@
 -- `moves::clear` meets its contract. Assumes nothing.
-use Prim.Native.Nat.{ℕ, ◌-◌}
-use native.Mathlib.Omega.{arith}
+use Prim.Native.Nat.{ℕ}
 use mathlib.Core.Path.{sym}
-use borrow.Author.Rules.{rules}
-use lib.ListN.{replicate, length-replicate, get_or-replicate}
-use Rattle.moves.proofs.Turns.{Put, put_none, put_one, put_all, short, outside}
+use lib.ListN.{length-replicate, get_or-replicate}
+use Rattle.moves.proofs.Turns.{put_none, put_one, put_all, short, outside}
 use Rattle.moves.proofs.clear.Goals as goal
 
 pub returns-then-dst-n : goal.returns-then-dst-n

@@ -1,10 +1,7 @@
 -- What the loop of `clear` keeps, and how it ends. Assumes nothing.
-use Prim.Native.Nat.{ℕ, ◌-◌}
-use native.Mathlib.Omega.{arith}
-use mathlib.Core.Path.{sym}
-use borrow.Author.Rules.{rules}
-use lib.ListN.{replicate, length-replicate, get_or-replicate}
-use Rattle.moves.proofs.Turns.{Put, put_none, put_one, put_all, short, outside}
+use Prim.Native.Nat.{◌-◌}
+use lib.ListN.{replicate}
+use Rattle.moves.proofs.Turns.{Put}
 use Rattle.moves.proofs.clear.Given as goal
 
 abbrev pub invariant-loop-j : goal.invariant-loop-j

@@ -1,10 +1,6 @@
 -- `moves::copy` meets its contract. Assumes nothing.
 use mathlib.Core.Path.{refl}
-use Prim.Native.Nat.{◌-◌}
-use native.Mathlib.Omega.{arith}
-use borrow.Author.Rules.{rules}
-use lib.ListN.{length}
-use Rattle.moves.proofs.Turns.{Put, put_none, put_one, put_all, short, outside}
+use Rattle.moves.proofs.Turns.{put_none, put_one, put_all, short, outside}
 use Rattle.moves.proofs.copy.Goals as goal
 
 pub returns-then-dst-src : goal.returns-then-dst-src

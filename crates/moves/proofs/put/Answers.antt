@@ -1,6 +1,5 @@
 -- `moves::put` meets its contract. Assumes nothing.
 use Rattle.moves.proofs.Pieces.{too_long, too_far, done}
-use borrow.Author.Rules.{rules}
 use Rattle.moves.proofs.put.Goals as goal
 
 pub returns-then-room-src : goal.returns-then-room-src

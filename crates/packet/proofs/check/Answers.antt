@@ -1,5 +1,4 @@
 -- `packet::check` meets its contract. Assumes nothing.
-use borrow.Author.Rules.{rules}
 use Rattle.packet.proofs.Checks.{p_zero, p_over, other_length, word_wrong, full_right, count_over, count_right}
 use Rattle.packet.proofs.check.Goals as goal
 

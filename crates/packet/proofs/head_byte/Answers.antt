@@ -1,6 +1,5 @@
 -- `packet::head_byte` meets its contract. Assumes nothing.
 use native.Mathlib.Omega.{arith}
-use borrow.Author.Rules.{rules}
 use Rattle.packet.specs.Packet.{head_of}
 use Rattle.packet.proofs.head_byte.Goals as goal
 

@@ -1,5 +1,4 @@
 -- `packet::put` meets its contract. Assumes nothing.
-use borrow.Author.Rules.{rules}
 use Rattle.packet.proofs.Writing.{seal}
 use Rattle.packet.proofs.put.Goals as goal
 

@@ -1,7 +1,6 @@
 -- `packet::put_plain` meets its contract. Assumes nothing.
-use mathlib.Core.Path.{refl, ◌∙◌}
+use mathlib.Core.Path.{refl}
 use native.Mathlib.Omega.{arith}
-use borrow.Author.Rules.{rules}
 use lib.ListN.{length-set}
 use Rattle.packet.proofs.Writing.{plain_short, plain_full}
 use Rattle.packet.proofs.put_plain.Goals as goal

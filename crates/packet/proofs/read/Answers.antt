@@ -1,6 +1,5 @@
 -- `packet::read` meets its contract. Assumes nothing.
 use native.Mathlib.Omega.{arith}
-use borrow.Author.Rules.{rules}
 use Rattle.packet.proofs.Reading.{is_passed, read_refused, read_is, body_padded, body_full}
 use Rattle.packet.proofs.read.Goals as goal
 

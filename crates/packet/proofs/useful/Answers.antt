@@ -1,6 +1,5 @@
 -- `packet::useful` meets its contract. Assumes nothing.
 use native.Mathlib.Omega.{arith}
-use borrow.Author.Rules.{rules}
 use Rattle.packet.proofs.Reading.{is_passed, useful_refused, padded_in, useful_padded, useful_full}
 use Rattle.packet.proofs.useful.Goals as goal
 

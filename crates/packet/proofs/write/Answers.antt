@@ -1,6 +1,5 @@
 -- `packet::write` meets its contract. Assumes nothing.
 use native.Mathlib.Omega.{arith}
-use borrow.Author.Rules.{rules}
 use Rattle.packet.proofs.Writing.{writable, write_refused, write_done}
 use Rattle.packet.proofs.write.Goals as goal
 

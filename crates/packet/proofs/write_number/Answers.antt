@@ -1,5 +1,4 @@
 -- `packet::write_number` meets its contract. Assumes nothing.
-use borrow.Author.Rules.{rules}
 use Rattle.packet.proofs.Writing.{no_p, over_p, over_n, over_id, over_index, no_room, all_right}
 use Rattle.packet.proofs.write_number.Goals as goal
 

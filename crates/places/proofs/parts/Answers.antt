@@ -1,6 +1,5 @@
 -- `places::parts` meets its contract. Assumes nothing.
 use lib.Dec.{lit<}
-use borrow.Author.Rules.{rules}
 use Rattle.description.proofs.Tests.{sized}
 use Rattle.places.proofs.Placing.{parts_are}
 use Rattle.places.proofs.parts.Goals as goal

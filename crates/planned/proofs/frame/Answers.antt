@@ -1,5 +1,4 @@
 -- `planned::frame` meets its contract. Assumes nothing.
-use borrow.Author.Rules.{rules}
 use Rattle.planned.proofs.Ways.{frame_refused, frame_done}
 use Rattle.planned.proofs.frame.Goals as goal
 

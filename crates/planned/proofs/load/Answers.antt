@@ -1,5 +1,4 @@
 -- `planned::load` meets its contract. Assumes nothing.
-use borrow.Author.Rules.{rules}
 use Rattle.planned.proofs.Ways.{load_refused_law, load_done}
 use Rattle.planned.proofs.load.Goals as goal
 

@@ -1,7 +1,6 @@
 -- `queue::packets` meets its contract. Assumes nothing.
 use mathlib.Core.Path.{ap, ◌∙◌}
 use native.Mathlib.Omega.{arith}
-use borrow.Author.Rules.{rules}
 use Rattle.queue.specs.Queue.{packets}
 use Rattle.queue.proofs.packets.Goals as goal
 

@@ -1,5 +1,4 @@
 -- `queue::rest` meets its contract. Assumes nothing.
-use borrow.Author.Rules.{rules}
 use Rattle.queue.proofs.Faults.{rest_zero, rest_is}
 use Rattle.queue.proofs.rest.Goals as goal
 

@@ -1,5 +1,4 @@
 -- `receiver::link_with` meets its contract. Assumes nothing.
-use borrow.Author.Rules.{rules}
 use Rattle.receiver.proofs.Links.{with_open, with_none}
 use Rattle.receiver.proofs.link_with.Goals as goal
 

@@ -1,5 +1,4 @@
 -- `receiver::put` meets its contract. Assumes nothing.
-use borrow.Author.Rules.{rules}
 use Rattle.receiver.proofs.put.Goals as goal
 
 pub returns-then-on : goal.returns-then-on

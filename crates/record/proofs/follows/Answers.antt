@@ -1,5 +1,5 @@
 -- `record::follows` meets its contract. Assumes nothing.
-use Rattle.std.proofs.Common.{sym, ◌∙◌, rules}
+use Rattle.std.proofs.Common.{sym, ◌∙◌}
 use Rattle.record.proofs.Ways.{follows_first, follows_second, follows_both}
 use Rattle.record.proofs.follows.Goals as goal
 

@@ -1,5 +1,5 @@
 -- `record::is_before` meets its contract. Assumes nothing.
-use Rattle.std.proofs.Common.{◌-◌, rules}
+use Rattle.std.proofs.Common.{rules}
 use Rattle.record.proofs.Ways.{before_none, before_given}
 use Rattle.record.proofs.is_before.Goals as goal
 

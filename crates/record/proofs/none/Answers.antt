@@ -1,6 +1,5 @@
 -- `record::none` meets its contract. Assumes nothing.
 use Rattle.record.proofs.Empty.{none_is}
-use Rattle.std.proofs.Common.{rules}
 use Rattle.record.proofs.none.Goals as goal
 
 pub returns : goal.returns

@@ -1,5 +1,5 @@
 -- `record::number_of` meets its contract. Assumes nothing.
-use Rattle.std.proofs.Common.{◌-◌, rules}
+use Rattle.std.proofs.Common.{rules}
 use Rattle.record.proofs.Ways.{tests_none, tests_given}
 use Rattle.record.proofs.number_of.Goals as goal
 

@@ -1,5 +1,5 @@
 -- `record::times_follow` meets its contract. Assumes nothing.
-use Rattle.std.proofs.Common.{◌-◌, rules}
+use Rattle.std.proofs.Common.{rules}
 use Rattle.record.proofs.Ways.{follow_none, follow_given}
 use Rattle.record.proofs.times_follow.Goals as goal
 

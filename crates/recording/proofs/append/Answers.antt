@@ -1,7 +1,6 @@
 -- `recording::append` meets its contract. Assumes nothing.
 use native.Mathlib.Omega.{arith}
 use Rattle.recording.proofs.Answers.{append_long, append_short, append_done}
-use borrow.Author.Rules.{rules}
 use Rattle.recording.proofs.append.Goals as goal
 
 pub returns-then-size-gt65528 : goal.returns-then-size-gt65528

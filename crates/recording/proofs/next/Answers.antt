@@ -1,7 +1,6 @@
 -- `recording::next` meets its contract. Assumes nothing.
 use native.Mathlib.Omega.{arith}
 use Rattle.recording.proofs.Answers.{answered, step_end, step_past, step_long, step_cut, step_entry}
-use borrow.Author.Rules.{rules}
 use Rattle.recording.proofs.next.Goals as goal
 
 pub returns-then-at-end : goal.returns-then-at-end

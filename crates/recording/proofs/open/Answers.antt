@@ -1,6 +1,5 @@
 -- `recording::open` meets its contract. Assumes nothing.
 use Rattle.recording.proofs.Answers.{open_empty, open_other, open_done}
-use borrow.Author.Rules.{rules}
 use Rattle.recording.proofs.open.Goals as goal
 
 pub returns-then-file-eq0 : goal.returns-then-file-eq0

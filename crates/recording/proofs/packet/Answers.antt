@@ -2,7 +2,6 @@
 use mathlib.Core.Path.{sym, ◌∙◌}
 use native.Mathlib.Omega.{arith}
 use Rattle.recording.proofs.Answers.{entry_means, packet_there, packet_ended, packet_refused}
-use borrow.Author.Rules.{rules}
 use Rattle.recording.proofs.packet.Goals as goal
 
 pub slice_bounds-result-count : goal.slice_bounds-result-count

@@ -1,6 +1,5 @@
 -- `recording::start` meets its contract. Assumes nothing.
 use Rattle.recording.proofs.Answers.{start_none, start_done}
-use borrow.Author.Rules.{rules}
 use Rattle.recording.proofs.start.Goals as goal
 
 pub returns-then-out-eq0 : goal.returns-then-out-eq0

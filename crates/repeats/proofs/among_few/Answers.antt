@@ -1,7 +1,6 @@
 -- `repeats::among_few` meets its contract. Assumes nothing.
 use Rattle.repeats.proofs.Names.{arrays_fit}
 use native.Mathlib.Omega.{arith}
-use borrow.Author.Rules.{rules}
 use Rattle.repeats.proofs.among_few.Goals as goal
 
 pub store-requires : goal.store-requires

@@ -1,7 +1,6 @@
 -- `repeats::among_many` meets its contract. Assumes nothing.
 use Rattle.repeats.proofs.Names.{arrays_fit, never_full}
 use native.Mathlib.Omega.{arith}
-use borrow.Author.Rules.{rules}
 use Rattle.repeats.proofs.among_many.Goals as goal
 
 pub store-r-requires : goal.store-r-requires

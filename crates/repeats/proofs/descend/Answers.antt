@@ -1,10 +1,8 @@
 -- `repeats::descend` meets its contract. Assumes nothing.
-use Rattle.repeats.proofs.Trees.{On, on_start, ends_hit, go_on, go_down, go_out}
+use Rattle.repeats.proofs.Trees.{on_start, ends_hit, go_on, go_down, go_out}
 use borrow.Author.Rules.{rules}
-use lib.ListN.{length, take}
 use native.Mathlib.Omega.{arith}
-use Prim.Native.Nat.{ℕ, ◌+◌, ◌-◌, ◌≤◌, ◌<◌}
-use mathlib.Core.Path.{◌≡◌, refl, sym, ap, ◌∙◌}
+use mathlib.Core.Path.{refl}
 use Rattle.repeats.proofs.descend.Goals as goal
 
 pub loop-node-init : goal.loop-node-init

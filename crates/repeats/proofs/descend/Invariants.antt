@@ -1,10 +1,6 @@
 -- What the loop of `descend` keeps, and how it ends. Assumes nothing.
-use Rattle.repeats.proofs.Trees.{On, on_start, ends_hit, go_on, go_down, go_out}
-use borrow.Author.Rules.{rules}
-use lib.ListN.{length, take}
-use native.Mathlib.Omega.{arith}
-use Prim.Native.Nat.{ℕ, ◌+◌, ◌-◌, ◌≤◌, ◌<◌}
-use mathlib.Core.Path.{◌≡◌, refl, sym, ap, ◌∙◌}
+use Rattle.repeats.proofs.Trees.{On}
+use Prim.Native.Nat.{◌-◌}
 use Rattle.repeats.proofs.descend.Given as goal
 
 abbrev pub invariant-loop-node : goal.invariant-loop-node

@@ -1,6 +1,5 @@
 -- `repeats::first_again` meets its contract. Assumes nothing.
 use Rattle.repeats.proofs.Names.{repeat_long, repeat_short, repeat_few}
-use borrow.Author.Rules.{rules}
 use Rattle.repeats.proofs.first_again.Goals as goal
 
 pub returns-then-packet-gt65528 : goal.returns-then-packet-gt65528

@@ -1,11 +1,10 @@
 -- `repeats::store` meets its contract. Assumes nothing.
-use Rattle.repeats.proofs.Names.{Seeing, seeing_none, seen_all, seen_full, nearer, can_insert, seen_again, seeing_more}
+use Rattle.repeats.proofs.Names.{seeing_none, seen_all, seen_full, nearer, can_insert, seen_again, seeing_more}
 use Rattle.items.proofs.Rule.{at_fits}
 use borrow.Author.Rules.{rules}
 use native.Mathlib.Omega.{arith}
-use lib.ListN.{length}
-use Prim.Native.Nat.{ℕ, ◌-◌, ◌<◌}
-use mathlib.Core.Path.{◌≡◌, refl, ◌∙◌}
+use Prim.Native.Nat.{◌<◌}
+use mathlib.Core.Path.{refl, ◌∙◌}
 use Rattle.repeats.proofs.store.Goals as goal
 
 pub loop-n-init : goal.loop-n-init

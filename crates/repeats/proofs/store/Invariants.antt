@@ -1,11 +1,8 @@
 -- What the loop of `store` keeps, and how it ends. Assumes nothing.
-use Rattle.repeats.proofs.Names.{Seeing, seeing_none, seen_all, seen_full, nearer, can_insert, seen_again, seeing_more}
-use Rattle.items.proofs.Rule.{at_fits}
-use borrow.Author.Rules.{rules}
-use native.Mathlib.Omega.{arith}
+use Rattle.repeats.proofs.Names.{Seeing}
 use lib.ListN.{length}
-use Prim.Native.Nat.{ℕ, ◌-◌, ◌<◌}
-use mathlib.Core.Path.{◌≡◌, refl, ◌∙◌}
+use Prim.Native.Nat.{◌-◌}
+use mathlib.Core.Path.{◌≡◌}
 use Rattle.repeats.proofs.store.Given as goal
 
 abbrev pub invariant-loop-n : goal.invariant-loop-n

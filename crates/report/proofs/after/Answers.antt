@@ -1,6 +1,5 @@
 -- `report::after` meets its contract. Assumes nothing.
 use Rattle.report.proofs.Ways.{after_refused, after_read}
-use Rattle.std.proofs.Common.{rules}
 use Rattle.report.proofs.after.Goals as goal
 
 pub returns-then-a-ne0 : goal.returns-then-a-ne0

@@ -1,7 +1,5 @@
 -- `report::begin` meets its contract. Assumes nothing.
 use Rattle.report.proofs.Ways.{begin_done}
-use Rattle.std.proofs.Common.{rules}
-use Rattle.tally.proofs.none.Reads as none-reads'
 use Rattle.report.proofs.begin.Goals as goal
 
 pub returns : goal.returns

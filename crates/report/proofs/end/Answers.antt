@@ -1,6 +1,5 @@
 -- `report::end` meets its contract. Assumes nothing.
 use Rattle.report.proofs.Ways.{end_done}
-use Rattle.std.proofs.Common.{rules}
 use Rattle.report.proofs.end.Goals as goal
 
 pub returns : goal.returns

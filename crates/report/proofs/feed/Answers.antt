@@ -1,6 +1,5 @@
 -- `report::feed` meets its contract. Assumes nothing.
 use Rattle.report.proofs.Ways.{feed_on, feed_one}
-use Rattle.std.proofs.Common.{rules}
 use Rattle.report.proofs.feed.Goals as goal
 
 pub returns-then-not-f : goal.returns-then-not-f

@@ -1,6 +1,5 @@
 -- `report::put_break` meets its contract. Assumes nothing.
 use Rattle.report.proofs.Ways.{break_refused, break_first, break_there}
-use Rattle.std.proofs.Common.{rules}
 use Rattle.report.proofs.put_break.Goals as goal
 
 pub returns-then-a-ne0 : goal.returns-then-a-ne0

@@ -1,6 +1,5 @@
 -- `report::put_refusal` meets its contract. Assumes nothing.
 use Rattle.report.proofs.Ways.{refusal_none, refusal_some}
-use Rattle.std.proofs.Common.{rules}
 use Rattle.report.proofs.put_refusal.Goals as goal
 
 pub returns-then-e-eq0 : goal.returns-then-e-eq0

@@ -1,6 +1,5 @@
 -- `report::saw` meets its contract. Assumes nothing.
 use Rattle.report.proofs.Ways.{put_length, saw_done}
-use Rattle.std.proofs.Common.{rules}
 use Rattle.report.proofs.saw.Goals as goal
 
 pub after-seen-requires : goal.after-seen-requires

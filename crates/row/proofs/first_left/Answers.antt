@@ -1,5 +1,4 @@
 -- `row::first_left` meets its contract. Assumes nothing.
-use borrow.Author.Rules.{rules}
 use Rattle.row.proofs.Steps.{none_left, some_left}
 use Rattle.row.proofs.first_left.Goals as goal
 

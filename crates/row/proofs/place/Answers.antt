@@ -1,7 +1,6 @@
 -- `row::place` meets its contract. Assumes nothing.
 use mathlib.Core.Path.{sym}
 use native.Mathlib.Omega.{arith}
-use borrow.Author.Rules.{rules}
 use Rattle.ring.proofs.Turned.{ahead_before, ahead_behind}
 use Rattle.row.proofs.place.Goals as goal
 

@@ -1,5 +1,4 @@
 -- `row::step_out` meets its contract. Assumes nothing.
-use borrow.Author.Rules.{rules}
 use Rattle.row.proofs.Rings.{ring_step}
 use Rattle.row.proofs.step_out.Goals as goal
 

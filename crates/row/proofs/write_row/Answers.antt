@@ -1,10 +1,8 @@
 -- `row::write_row` meets its contract. Assumes nothing.
-use Prim.Native.Nat.{◌+◌, ◌-◌, ◌≤◌}
+use Prim.Native.Nat.{◌+◌, ◌-◌}
 use native.Mathlib.Omega.{arith}
 use borrow.Author.Rules.{rules}
-use lib.ListN.{length}
-use Rattle.ring.specs.Ring.{turned}
-use Rattle.row.proofs.Steps.{Writing, writing_first, writing_again, writing_done, next_in_law}
+use Rattle.row.proofs.Steps.{writing_first, writing_again, writing_done, next_in_law}
 use Rattle.row.proofs.Rings.{whole_in, whole_out}
 use Rattle.row.proofs.write_row.Goals as goal
 

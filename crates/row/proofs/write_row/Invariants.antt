@@ -1,11 +1,7 @@
 -- What the loop of `write_row` keeps, and how it ends. Assumes nothing.
-use Prim.Native.Nat.{◌+◌, ◌-◌, ◌≤◌}
-use native.Mathlib.Omega.{arith}
-use borrow.Author.Rules.{rules}
-use lib.ListN.{length}
+use Prim.Native.Nat.{◌-◌}
 use Rattle.ring.specs.Ring.{turned}
-use Rattle.row.proofs.Steps.{Writing, writing_first, writing_again, writing_done, next_in_law}
-use Rattle.row.proofs.Rings.{whole_in, whole_out}
+use Rattle.row.proofs.Steps.{Writing}
 use Rattle.row.proofs.write_row.Given as goal
 
 abbrev pub invariant-loop-j : goal.invariant-loop-j

@@ -1,7 +1,6 @@
 -- `saying::one` meets its contract. Assumes nothing.
 use mathlib.Core.Path.{◌≡◌}
 use Prim.Native.Nat.{ℕ}
-use borrow.Author.Rules.{rules}
 use Rattle.saying.specs.declared.Said.{Said}
 use Rattle.saying.specs.Values.{begun, with}
 use Rattle.saying.proofs.one.Goals as goal

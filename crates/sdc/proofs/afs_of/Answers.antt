@@ -1,6 +1,5 @@
 -- `sdc::afs_of` meets its contract. Assumes nothing.
 use Rattle.sdc.proofs.Ways.{afs_none, afs_some}
-use borrow.Author.Rules.{rules}
 use Rattle.sdc.proofs.afs_of.Goals as goal
 
 pub returns-in-Absent : goal.returns-in-Absent

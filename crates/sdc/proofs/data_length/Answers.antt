@@ -1,6 +1,5 @@
 -- `sdc::data_length` meets its contract. Assumes nothing.
 use Rattle.sdc.proofs.Ways.{data_none}
-use borrow.Author.Rules.{rules}
 use Rattle.sdc.proofs.data_length.Goals as goal
 
 pub returns-then-n-lt3 : goal.returns-then-n-lt3

@@ -1,10 +1,4 @@
 -- `sdc::is_blank` meets its contract. Assumes nothing.
-use borrow.Author.Rules.{rules}
-use mathlib.Core.Bool.{◌&&◌}
-use mathlib.Core.Path.{◌≡◌, refl}
-use Prim.Native.Nat.{◌-◌}
-use lib.ListN.{length, drop}
-use Rattle.sdc.specs.Block.{blank}
 use Rattle.sdc.proofs.Ways.{blank_more, blank_done}
 use Rattle.sdc.proofs.is_blank.Goals as goal
 

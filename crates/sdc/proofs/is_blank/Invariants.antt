@@ -1,11 +1,9 @@
 -- What the loop of `is_blank` keeps, and how it ends. Assumes nothing.
-use borrow.Author.Rules.{rules}
 use mathlib.Core.Bool.{◌&&◌}
-use mathlib.Core.Path.{◌≡◌, refl}
+use mathlib.Core.Path.{◌≡◌}
 use Prim.Native.Nat.{◌-◌}
 use lib.ListN.{length, drop}
 use Rattle.sdc.specs.Block.{blank}
-use Rattle.sdc.proofs.Ways.{blank_more, blank_done}
 use Rattle.sdc.proofs.is_blank.Given as goal
 
 abbrev pub invariant-loop-i : goal.invariant-loop-i

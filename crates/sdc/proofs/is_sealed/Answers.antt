@@ -1,6 +1,5 @@
 -- `sdc::is_sealed` meets its contract. Assumes nothing.
 use Rattle.sdc.proofs.Ways.{seal_none, seal_short, seal_is}
-use borrow.Author.Rules.{rules}
 use Rattle.sdc.proofs.is_sealed.Goals as goal
 
 pub returns-then-n-eq0 : goal.returns-then-n-eq0

@@ -1,6 +1,5 @@
 -- `sdc::of_value` meets its contract. Assumes nothing.
 use Rattle.sdc.proofs.Ways.{of_none, of_some}
-use borrow.Author.Rules.{rules}
 use Rattle.sdc.proofs.of_value.Goals as goal
 
 pub returns-then-value-eq0 : goal.returns-then-value-eq0

@@ -1,6 +1,5 @@
 -- `sdc::over_long` meets its contract. Assumes nothing.
 use Rattle.sdc.proofs.Ways.{long_is}
-use borrow.Author.Rules.{rules}
 use Rattle.sdc.proofs.over_long.Goals as goal
 
 pub returns : goal.returns

@@ -1,6 +1,5 @@
 -- `sdc::put_block` meets its contract. Assumes nothing.
 use Rattle.sdc.proofs.Writing.{block_short, block_outside, block_in}
-use borrow.Author.Rules.{rules}
 use Rattle.sdc.proofs.put_block.Goals as goal
 
 pub returns-then-out-n : goal.returns-then-out-n

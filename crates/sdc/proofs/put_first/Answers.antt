@@ -1,6 +1,5 @@
 -- `sdc::put_first` meets its contract. Assumes nothing.
 use Rattle.sdc.proofs.Writing.{first_all, first_part}
-use borrow.Author.Rules.{rules}
 use Rattle.sdc.proofs.put_first.Goals as goal
 
 pub returns-then-body-size : goal.returns-then-body-size

@@ -1,8 +1,5 @@
 -- `sdc::put_plain` meets its contract. Assumes nothing.
 use Rattle.sdc.proofs.Writing.{plain_written}
-use mathlib.Core.Path.{◌∙◌}
-use lib.ListN.{length-set}
-use borrow.Author.Rules.{rules}
 use Rattle.sdc.proofs.put_plain.Goals as goal
 
 pub returns : goal.returns

@@ -1,7 +1,6 @@
 -- `sdc::put_sealed` meets its contract. Assumes nothing.
 use mathlib.Core.Path.{refl}
 use Rattle.sdc.proofs.Writing.{seal_written}
-use borrow.Author.Rules.{rules}
 use Rattle.sdc.proofs.put_sealed.Goals as goal
 
 pub returns : goal.returns

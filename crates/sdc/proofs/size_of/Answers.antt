@@ -1,6 +1,5 @@
 -- `sdc::size_of` meets its contract. Assumes nothing.
 use Rattle.sdc.proofs.Ways.{size_none, size_some}
-use borrow.Author.Rules.{rules}
 use Rattle.sdc.proofs.size_of.Goals as goal
 
 pub returns-in-Absent : goal.returns-in-Absent

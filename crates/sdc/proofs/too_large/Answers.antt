@@ -1,6 +1,5 @@
 -- `sdc::too_large` meets its contract. Assumes nothing.
 use Rattle.sdc.proofs.Ways.{large_is}
-use borrow.Author.Rules.{rules}
 use Rattle.sdc.proofs.too_large.Goals as goal
 
 pub returns : goal.returns

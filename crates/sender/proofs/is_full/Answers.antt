@@ -1,5 +1,4 @@
 -- `sender::is_full` meets its contract. Assumes nothing.
-use borrow.Author.Rules.{rules}
 use Rattle.sender.proofs.Entering.{room_eight, room_rest}
 use Rattle.sender.proofs.is_full.Goals as goal
 

@@ -1,6 +1,5 @@
 -- `stamp_text::millis` meets its contract. Assumes nothing.
 use Rattle.stamp_text.proofs.Digits.{millis_is}
-use borrow.Author.Rules.{rules}
 use Rattle.stamp_text.proofs.millis.Goals as goal
 
 pub returns : goal.returns

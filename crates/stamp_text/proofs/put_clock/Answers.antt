@@ -3,7 +3,6 @@ use native.Mathlib.Omega.{arith}
 use Rattle.stamp_text.specs.Date.{clock_text}
 use Rattle.moves.proofs.Pieces.{puts_then}
 use Rattle.line_text.proofs.Room.{fit}
-use borrow.Author.Rules.{rules}
 use Rattle.stamp_text.proofs.put_clock.Goals as goal
 
 pub returns : goal.returns

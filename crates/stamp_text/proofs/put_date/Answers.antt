@@ -3,7 +3,6 @@ use native.Mathlib.Omega.{arith}
 use Rattle.stamp_text.specs.Date.{date_text}
 use Rattle.moves.proofs.Pieces.{puts_then}
 use Rattle.line_text.proofs.Room.{fit}
-use borrow.Author.Rules.{rules}
 use Rattle.stamp_text.proofs.put_date.Goals as goal
 
 pub returns : goal.returns

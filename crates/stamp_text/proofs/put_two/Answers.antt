@@ -2,7 +2,6 @@
 use native.Mathlib.Omega.{arith}
 use Rattle.stamp_text.specs.Date.{two_text}
 use Rattle.line_text.proofs.Room.{fit}
-use borrow.Author.Rules.{rules}
 use Rattle.stamp_text.proofs.put_two.Goals as goal
 
 pub returns : goal.returns

@@ -2,7 +2,6 @@
 use native.Mathlib.Omega.{arith}
 use Rattle.stamp_text.proofs.Ways.{utc_none, utc_some}
 use Rattle.line_text.proofs.Room.{fit}
-use borrow.Author.Rules.{rules}
 use Rattle.stamp_text.proofs.put_utc.Goals as goal
 
 pub returns-then-s : goal.returns-then-s

@@ -1,7 +1,6 @@
 -- `stamp_text::time` meets its contract. Assumes nothing.
 use native.Mathlib.Omega.{arith}
 use Rattle.line_text.proofs.Room.{no_room, placed}
-use borrow.Author.Rules.{rules}
 use Rattle.stamp_text.proofs.time.Goals as goal
 
 pub returns-then-out-at : goal.returns-then-out-at

@@ -1,5 +1,5 @@
 -- What the loop of `hear_all` keeps, and how it ends. Assumes nothing.
-use Rattle.std.proofs.Common.{◌≡◌, length, rules}
+use Rattle.std.proofs.Common.{◌≡◌, length}
 use Rattle.stream_hearing.proofs.hear_all.Given as goal
 
 abbrev pub invariant-loop-left : goal.invariant-loop-left

@@ -1,7 +1,6 @@
 -- What the loop of `play` keeps, and how it ends. Assumes nothing.
 use mathlib.Core.Path.{◌≡◌}
 use lib.ListN.{length}
-use borrow.Author.Rules.{rules}
 use Rattle.stream_play.proofs.play.Given as goal
 
 abbrev pub invariant-loop-left : goal.invariant-loop-left

@@ -1,10 +1,8 @@
 -- `summary_text::put_numbers` meets its contract. Assumes nothing.
 use mathlib.Core.Path.{◌≡◌, refl, ap, ◌∙◌}
-use Prim.Native.Nat.{ℕ, ◌+◌, ◌*◌, ◌-◌, ◌≤◌}
+use Prim.Native.Nat.{ℕ}
 use native.Mathlib.Omega.{arith}
-use lib.ListN.{length, take, drop}
-use borrow.Author.Rules.{rules}
-use Rattle.moves.specs.Moves.{Puts}
+use lib.ListN.{take, drop}
 use Rattle.moves.proofs.Pieces.{puts_same}
 use Rattle.summary_text.specs.Summary.{numbers_text}
 use Rattle.summary_text.proofs.Numbers.{numbers_none, numbers_next}

@@ -1,13 +1,9 @@
 -- What the loop of `put_numbers` keeps, and how it ends. Assumes nothing.
-use mathlib.Core.Path.{◌≡◌, refl, ap, ◌∙◌}
-use Prim.Native.Nat.{ℕ, ◌+◌, ◌*◌, ◌-◌, ◌≤◌}
-use native.Mathlib.Omega.{arith}
+use mathlib.Core.Path.{◌≡◌}
+use Prim.Native.Nat.{◌+◌, ◌*◌, ◌-◌, ◌≤◌}
 use lib.ListN.{length, take, drop}
-use borrow.Author.Rules.{rules}
 use Rattle.moves.specs.Moves.{Puts}
-use Rattle.moves.proofs.Pieces.{puts_same}
 use Rattle.summary_text.specs.Summary.{numbers_text}
-use Rattle.summary_text.proofs.Numbers.{numbers_none, numbers_next}
 use Rattle.summary_text.proofs.put_numbers.Given as goal
 
 abbrev pub invariant-loop-i : goal.invariant-loop-i

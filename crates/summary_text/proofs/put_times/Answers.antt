@@ -2,7 +2,6 @@
 use native.Mathlib.Omega.{arith}
 use Rattle.summary_text.proofs.Numbers.{times_none, times_some}
 use Rattle.line_text.proofs.Room.{fit}
-use borrow.Author.Rules.{rules}
 use Rattle.summary_text.proofs.put_times.Goals as goal
 
 pub returns-then-times-eq0 : goal.returns-then-times-eq0

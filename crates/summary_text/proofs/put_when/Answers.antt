@@ -3,7 +3,6 @@ use native.Mathlib.Omega.{arith}
 use Rattle.summary_text.specs.Summary.{when_text}
 use Rattle.moves.proofs.Pieces.{puts_then}
 use Rattle.line_text.proofs.Room.{fit}
-use borrow.Author.Rules.{rules}
 use Rattle.summary_text.proofs.put_when.Goals as goal
 
 pub returns : goal.returns

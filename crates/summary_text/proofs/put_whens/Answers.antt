@@ -2,7 +2,6 @@
 use native.Mathlib.Omega.{arith}
 use Rattle.summary_text.specs.Summary.{whens_text}
 use Rattle.moves.proofs.Pieces.{puts_then}
-use borrow.Author.Rules.{rules}
 use Rattle.summary_text.proofs.put_whens.Goals as goal
 
 pub returns : goal.returns

@@ -4,7 +4,6 @@ use Rattle.stamp_text.proofs.Ways.{dated_by}
 use Rattle.summary_text.specs.Summary.{summary_text}
 use Rattle.moves.proofs.Pieces.{puts_then}
 use Rattle.line_text.proofs.Room.{fit}
-use borrow.Author.Rules.{rules}
 use Rattle.summary_text.proofs.summary.Goals as goal
 
 pub returns : goal.returns

@@ -1,6 +1,5 @@
 -- `tag_spots::find_all` meets its contract. Assumes nothing.
 use Rattle.tag_spots.proofs.Walk.{left_starts, left_bits, found_starts, found_bits, walked_stop}
-use borrow.Author.Rules.{rules}
 use Rattle.tag_spots.proofs.find_all.Goals as goal
 
 pub returns-then-bits-starts : goal.returns-then-bits-starts

@@ -1,7 +1,6 @@
 -- `tag_spots::note` meets its contract. Assumes nothing.
 use native.Mathlib.Omega.{arith}
 use Rattle.tag_spots.proofs.Rows.{note_first, note_later, note_none}
-use borrow.Author.Rules.{rules}
 use Rattle.tag_spots.proofs.note.Goals as goal
 
 pub returns-then-starts-i-eq0 : goal.returns-then-starts-i-eq0

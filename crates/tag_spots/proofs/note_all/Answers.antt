@@ -1,10 +1,8 @@
 -- `tag_spots::note_all` meets its contract. Assumes nothing.
 use Rattle.items.proofs.Rule.{at_fits}
-use Rattle.tag_spots.proofs.Walk.{Walking, walking_first, same_starts, same_bits, walking_more}
+use Rattle.tag_spots.proofs.Walk.{walking_first, same_starts, same_bits, walking_more}
 use Rattle.tag_spots.proofs.Pass.{passing_done}
 use mathlib.Core.Path.{sym, ◌∙◌}
-use Prim.Native.Nat.{◌-◌}
-use lib.ListN.{length}
 use native.Mathlib.Omega.{arith}
 use borrow.Author.Rules.{rules}
 use Rattle.tag_spots.proofs.note_all.Goals as goal

@@ -1,12 +1,7 @@
 -- What the loop of `note_all` keeps, and how it ends. Assumes nothing.
-use Rattle.items.proofs.Rule.{at_fits}
-use Rattle.tag_spots.proofs.Walk.{Walking, walking_first, same_starts, same_bits, walking_more}
-use Rattle.tag_spots.proofs.Pass.{passing_done}
-use mathlib.Core.Path.{sym, ◌∙◌}
+use Rattle.tag_spots.proofs.Walk.{Walking}
 use Prim.Native.Nat.{◌-◌}
 use lib.ListN.{length}
-use native.Mathlib.Omega.{arith}
-use borrow.Author.Rules.{rules}
 use Rattle.tag_spots.proofs.note_all.Given as goal
 
 abbrev pub invariant-loop-at : goal.invariant-loop-at

@@ -2,7 +2,6 @@
 use Rattle.tag_spots.proofs.Search.{row_empty, row_here, row_other, row_none}
 use native.Mathlib.Nat.{mod-lt}
 use native.Mathlib.Omega.{arith}
-use borrow.Author.Rules.{rules}
 use Rattle.tag_spots.proofs.row_of.Goals as goal
 
 pub returns-then-m-eq0 : goal.returns-then-m-eq0

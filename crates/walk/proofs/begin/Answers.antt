@@ -1,6 +1,5 @@
 -- `walk::begin` meets its contract. Assumes nothing.
 use Rattle.walk.proofs.Calls.{begin_done}
-use Rattle.std.proofs.Common.{rules}
 use Rattle.walk.proofs.begin.Goals as goal
 
 pub returns : goal.returns

@@ -1,6 +1,5 @@
 -- `walk::feed` meets its contract. Assumes nothing.
 use Rattle.walk.proofs.Calls.{feed_not, feed_done}
-use Rattle.std.proofs.Common.{rules}
 use Rattle.walk.proofs.feed.Goals as goal
 
 pub returns-then-w-ne0 : goal.returns-then-w-ne0

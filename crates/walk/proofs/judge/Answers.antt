@@ -1,6 +1,5 @@
 -- `walk::judge` meets its contract. Assumes nothing.
 use Rattle.walk.proofs.Calls.{judge_entry, judge_end, judge_refused}
-use Rattle.std.proofs.Common.{rules}
 use Rattle.walk.proofs.judge.Goals as goal
 
 pub returns-in-Entry : goal.returns-in-Entry

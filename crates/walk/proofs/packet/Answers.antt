@@ -1,6 +1,5 @@
 -- `walk::packet` meets its contract. Assumes nothing.
 use Rattle.walk.proofs.Calls.{packet_short, packet_past, packet_done}
-use Rattle.std.proofs.Common.{rules}
 use Rattle.walk.proofs.packet.Goals as goal
 
 pub returns-then-work-lt4 : goal.returns-then-work-lt4

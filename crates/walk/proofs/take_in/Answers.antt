@@ -1,6 +1,5 @@
 -- `walk::take_in` meets its contract. Assumes nothing.
 use Rattle.walk.proofs.Calls.{prefix_length, end_in, part_in, taken_in}
-use Rattle.std.proofs.Common.{rules}
 use Rattle.walk.proofs.take_in.Goals as goal
 
 pub slice_bounds-wanted-end-2 : goal.slice_bounds-wanted-end-2

@@ -1,6 +1,5 @@
 -- `walk::wanted` meets its contract. Assumes nothing.
 use Rattle.walk.proofs.Calls.{wanted_4, wanted_all, wanted_rest}
-use Rattle.std.proofs.Common.{rules}
 use Rattle.walk.proofs.wanted.Goals as goal
 
 pub returns-then-held-lt4 : goal.returns-then-held-lt4

@@ -1,6 +1,5 @@
 -- `hand::Settings::check` meets its contract. Assumes nothing.
 use native.Mathlib.Omega.{arith}
-use borrow.Author.Rules.{rules}
 use Rattle.hand.proofs.Allowed.{no_p, over_p, no_n, over_n, unfit_a, unfit_b, unfit_c, over_shares, all_right, sum_fits}
 use Rattle.hand.proofs.Settings.check.Goals as goal
 

@@ -1,5 +1,4 @@
 -- `hand::Three::low` meets its contract. Assumes nothing.
-use borrow.Author.Rules.{rules}
 use Rattle.hand.proofs.Three.low.Goals as goal
 
 pub returns : goal.returns

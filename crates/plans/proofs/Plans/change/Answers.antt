@@ -1,5 +1,4 @@
 -- `plans::Plans::change` meets its contract. Assumes nothing.
-use borrow.Author.Rules.{rules}
 use Rattle.plans.proofs.Ways.{change_record, change_set, change_done}
 use Rattle.plans.proofs.Plans.change.Goals as goal
 

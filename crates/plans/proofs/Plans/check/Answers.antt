@@ -1,5 +1,4 @@
 -- `plans::Plans::check` meets its contract. Assumes nothing.
-use borrow.Author.Rules.{rules}
 use Rattle.plans.proofs.Ways.{first_bad, none_waits, second_bad, both_fit}
 use Rattle.plans.proofs.Plans.check.Goals as goal
 

@@ -1,5 +1,4 @@
 -- `plans::Plans::hand_out` meets its contract. Assumes nothing.
-use borrow.Author.Rules.{rules}
 use Rattle.plans.proofs.Ways.{hand_refused, hand_done}
 use Rattle.plans.proofs.Plans.hand_out.Goals as goal
 

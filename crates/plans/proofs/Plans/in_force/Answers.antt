@@ -1,5 +1,4 @@
 -- `plans::Plans::in_force` meets its contract. Assumes nothing.
-use borrow.Author.Rules.{rules}
 use Rattle.plans.proofs.Ways.{force_none, force_other, force_taken}
 use Rattle.plans.proofs.Plans.in_force.Goals as goal
 

@@ -1,5 +1,4 @@
 -- `queue::Queue::head_len` meets its contract. Assumes nothing.
-use borrow.Author.Rules.{rules}
 use Rattle.queue.proofs.Taken.{len_none, len_short, len_long, len_ok}
 use Rattle.queue.proofs.Queue.head_len.Goals as goal
 

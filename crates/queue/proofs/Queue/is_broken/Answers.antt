@@ -1,8 +1,7 @@
 -- `queue::Queue::is_broken` meets its contract. Assumes nothing.
-use Prim.Native.Nat.{◌-◌}
 use borrow.Author.Rules.{rules}
 use Rattle.queue.proofs.Faults.{broken_count}
-use Rattle.queue.proofs.Pass.{Pass, pass_none, pass_more, pass_empty, pass_some, pass_bytes}
+use Rattle.queue.proofs.Pass.{pass_none, pass_more, pass_empty, pass_some, pass_bytes}
 use Rattle.queue.proofs.Queue.is_broken.Goals as goal
 
 pub returns-then-n-gt8 : goal.returns-then-n-gt8

@@ -1,8 +1,6 @@
 -- What the loop of `Queue.is_broken` keeps, and how it ends. Assumes nothing.
 use Prim.Native.Nat.{◌-◌}
-use borrow.Author.Rules.{rules}
-use Rattle.queue.proofs.Faults.{broken_count}
-use Rattle.queue.proofs.Pass.{Pass, pass_none, pass_more, pass_empty, pass_some, pass_bytes}
+use Rattle.queue.proofs.Pass.{Pass}
 use Rattle.queue.proofs.Queue.is_broken.Given as goal
 
 abbrev pub invariant-loop-i : goal.invariant-loop-i

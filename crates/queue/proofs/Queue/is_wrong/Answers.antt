@@ -1,7 +1,6 @@
 -- `queue::Queue::is_wrong` meets its contract. Assumes nothing.
-use Prim.Native.Nat.{◌-◌}
 use borrow.Author.Rules.{rules}
-use Rattle.queue.proofs.Pass.{Counted, counted_none, counted_more, counted_some, counted_bytes, wrong_count_law, wrong_empty, wrong_sum, wrong_is}
+use Rattle.queue.proofs.Pass.{counted_none, counted_more, counted_some, counted_bytes, wrong_count_law, wrong_empty, wrong_sum, wrong_is}
 use Rattle.queue.proofs.Queue.is_wrong.Goals as goal
 
 pub returns-then-there-gt8 : goal.returns-then-there-gt8

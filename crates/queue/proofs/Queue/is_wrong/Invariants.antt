@@ -1,7 +1,6 @@
 -- What the loop of `Queue.is_wrong` keeps, and how it ends. Assumes nothing.
 use Prim.Native.Nat.{◌-◌}
-use borrow.Author.Rules.{rules}
-use Rattle.queue.proofs.Pass.{Counted, counted_none, counted_more, counted_some, counted_bytes, wrong_count_law, wrong_empty, wrong_sum, wrong_is}
+use Rattle.queue.proofs.Pass.{Counted}
 use Rattle.queue.proofs.Queue.is_wrong.Given as goal
 
 abbrev pub invariant-loop-i : goal.invariant-loop-i

@@ -1,5 +1,4 @@
 -- `queue::Queue::pop` meets its contract. Assumes nothing.
-use borrow.Author.Rules.{rules}
 use Rattle.queue.proofs.Taken.{pop_far, pop_none, pop_unit, pop_part}
 use Rattle.queue.proofs.Queue.pop.Goals as goal
 

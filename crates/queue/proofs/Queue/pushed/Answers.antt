@@ -1,5 +1,4 @@
 -- `queue::Queue::pushed` meets its contract. Assumes nothing.
-use borrow.Author.Rules.{rules}
 use Rattle.queue.proofs.Sums.{push_full, push_room}
 use Rattle.queue.proofs.Queue.pushed.Goals as goal
 

@@ -1,8 +1,6 @@
 -- `queue::Queue::unsent` meets its contract. Assumes nothing.
-use Prim.Native.Nat.{◌-◌}
 use borrow.Author.Rules.{rules}
-use Rattle.queue.specs.Queue.{same}
-use Rattle.queue.proofs.Sums.{Summed, summed_none, summed_more, summed_bytes}
+use Rattle.queue.proofs.Sums.{summed_none, summed_more, summed_bytes}
 use Rattle.queue.proofs.Queue.unsent.Goals as goal
 
 pub loop-i-init : goal.loop-i-init

@@ -1,8 +1,7 @@
 -- What the loop of `Queue.unsent` keeps, and how it ends. Assumes nothing.
 use Prim.Native.Nat.{◌-◌}
-use borrow.Author.Rules.{rules}
 use Rattle.queue.specs.Queue.{same}
-use Rattle.queue.proofs.Sums.{Summed, summed_none, summed_more, summed_bytes}
+use Rattle.queue.proofs.Sums.{Summed}
 use Rattle.queue.proofs.Queue.unsent.Given as goal
 
 abbrev pub invariant-loop-i : goal.invariant-loop-i

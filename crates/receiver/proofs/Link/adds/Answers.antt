@@ -1,5 +1,4 @@
 -- `receiver::Link::adds` meets its contract. Assumes nothing.
-use borrow.Author.Rules.{rules}
 use Rattle.receiver.proofs.Links.{adds_is}
 use Rattle.receiver.proofs.Link.adds.Goals as goal
 

@@ -1,5 +1,4 @@
 -- `receiver::Link::after` meets its contract. Assumes nothing.
-use borrow.Author.Rules.{rules}
 use native.Mathlib.Omega.{arith}
 use Rattle.receiver.proofs.Links.{after_null, after_more, after_shut, more_fits}
 use Rattle.receiver.proofs.Link.after.Goals as goal

@@ -1,5 +1,4 @@
 -- `receiver::Link::dropped` meets its contract. Assumes nothing.
-use borrow.Author.Rules.{rules}
 use Rattle.receiver.proofs.Dropped.{drops_none, drops_either, drops_not, drops_over}
 use Rattle.receiver.proofs.Link.dropped.Goals as goal
 

@@ -1,5 +1,4 @@
 -- `receiver::Link::joins` meets its contract. Assumes nothing.
-use borrow.Author.Rules.{rules}
 use Rattle.receiver.proofs.Links.{joins_is}
 use Rattle.receiver.proofs.Link.joins.Goals as goal
 

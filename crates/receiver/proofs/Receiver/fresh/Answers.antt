@@ -1,8 +1,6 @@
 -- `receiver::Receiver::fresh` meets its contract. Assumes nothing.
 use mathlib.Core.Path.{refl}
 use Rattle.receiver.specs.Receiver.{fresh}
-use Rattle.receiver.proofs.Receiver.fresh.Reads as reads
-use Rattle.receiver.proofs.Receiver.fresh.Lts as lts
 use Rattle.receiver.proofs.Receiver.fresh.Goals as goal
 
 pub returns : goal.returns

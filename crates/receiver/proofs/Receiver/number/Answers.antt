@@ -1,5 +1,4 @@
 -- `receiver::Receiver::number` meets its contract. Assumes nothing.
-use borrow.Author.Rules.{rules}
 use Rattle.receiver.proofs.Steps.{no_13, no_17, no_1, no_rest}
 use Rattle.receiver.proofs.Receiver.number.Goals as goal
 

@@ -1,5 +1,4 @@
 -- `receiver::Receiver::step` meets its contract. Assumes nothing.
-use borrow.Author.Rules.{rules}
 use native.Mathlib.Omega.{arith}
 use Rattle.receiver.proofs.Steps.{step_refused, step_sum, step_inside, step_ready, step_done}
 use Rattle.receiver.proofs.Receiver.step.Goals as goal

@@ -1,5 +1,4 @@
 -- `receiver::Receiver::take` meets its contract. Assumes nothing.
-use borrow.Author.Rules.{rules}
 use Rattle.receiver.proofs.Steps.{taken_is}
 use Rattle.receiver.proofs.Receiver.take.Goals as goal
 

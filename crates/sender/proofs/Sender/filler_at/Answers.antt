@@ -1,6 +1,5 @@
 -- `sender::Sender::filler_at` meets its contract. Assumes nothing.
 use mathlib.Core.Path.{refl}
-use borrow.Author.Rules.{rules}
 use Rattle.sender.proofs.Framing.{filler_at_is}
 use Rattle.sender.proofs.Sender.filler_at.Goals as goal
 

@@ -1,5 +1,4 @@
 -- `sender::Sender::frame` meets its contract. Assumes nothing.
-use borrow.Author.Rules.{rules}
 use Rattle.sender.proofs.Going.{frame_refused, frame_going, frame_done}
 use Rattle.sender.proofs.Sender.frame.Goals as goal
 

@@ -1,5 +1,4 @@
 -- `sender::Sender::frame_number` meets its contract. Assumes nothing.
-use borrow.Author.Rules.{rules}
 use native.Mathlib.Omega.{arith}
 use Rattle.sender.proofs.Loading.{p_fits}
 use Rattle.sender.proofs.Framing.{product_in}

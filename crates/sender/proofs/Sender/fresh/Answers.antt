@@ -1,5 +1,4 @@
 -- `sender::Sender::fresh` meets its contract. Assumes nothing.
-use borrow.Author.Rules.{rules}
 use Rattle.sender.specs.State.{fresh}
 use Rattle.sender.specs.Kept.{fresh_kept}
 use Rattle.sender.specs.Rings.{fresh_rings}

@@ -1,7 +1,6 @@
 -- `sender::Sender::is_faulty` meets its contract. Assumes nothing.
-use Prim.Native.Nat.{◌-◌}
 use borrow.Author.Rules.{rules}
-use Rattle.sender.proofs.Checks.{Looked, looked_none, looked_more, faulty_start, faulty_queue, faulty_turn, faulty_index, faulty_rest}
+use Rattle.sender.proofs.Checks.{looked_none, looked_more, faulty_start, faulty_queue, faulty_turn, faulty_index, faulty_rest}
 use Rattle.sender.proofs.Sender.is_faulty.Goals as goal
 
 pub returns-then-is_stray : goal.returns-then-is_stray

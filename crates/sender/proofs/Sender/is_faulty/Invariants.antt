@@ -1,7 +1,6 @@
 -- What the loop of `Sender.is_faulty` keeps, and how it ends. Assumes nothing.
 use Prim.Native.Nat.{◌-◌}
-use borrow.Author.Rules.{rules}
-use Rattle.sender.proofs.Checks.{Looked, looked_none, looked_more, faulty_start, faulty_queue, faulty_turn, faulty_index, faulty_rest}
+use Rattle.sender.proofs.Checks.{Looked}
 use Rattle.sender.proofs.Sender.is_faulty.Given as goal
 
 abbrev pub invariant-loop-id : goal.invariant-loop-id

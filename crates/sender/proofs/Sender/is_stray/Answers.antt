@@ -1,6 +1,5 @@
 -- `sender::Sender::is_stray` meets its contract. Assumes nothing.
 use lib.Dec.{lit<}
-use borrow.Author.Rules.{rules}
 use Rattle.sender.proofs.Checks.{strayed_at, strayed_last}
 use Rattle.sender.proofs.Sender.is_stray.Goals as goal
 

@@ -1,5 +1,4 @@
 -- `sender::Sender::load_number` meets its contract. Assumes nothing.
-use borrow.Author.Rules.{rules}
 use native.Mathlib.Omega.{arith}
 use Rattle.sender.proofs.Loading.{p_fits}
 use Rattle.sender.proofs.Checks.{load_13, load_17, load_1, load_1_unit, load_14_empty, load_14_long, load_14_id, load_0}

@@ -1,5 +1,4 @@
 -- `sender::Sender::run` meets its contract. Assumes nothing.
-use borrow.Author.Rules.{rules}
 use mathlib.Core.Path.{refl}
 use native.Mathlib.Omega.{arith}
 use Rattle.sender.proofs.Framing.{p_in, ready, rows_in, ends_in, bytes_are}

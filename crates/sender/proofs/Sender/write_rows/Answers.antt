@@ -1,7 +1,6 @@
 -- `sender::Sender::write_rows` meets its contract. Assumes nothing.
 use mathlib.Core.Path.{refl}
 use native.Mathlib.Omega.{arith}
-use borrow.Author.Rules.{rules}
 use Rattle.sender.proofs.Framing.{ends_are, rows_are}
 use Rattle.sender.proofs.Sender.write_rows.Goals as goal
 
