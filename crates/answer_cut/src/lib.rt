@@ -1,4 +1,6 @@
 // Call 17 of docs/CASES.md: a frame cut into its streams. Nothing here decides an answer.
+#![tactic(auto)]
+
 use cases::case::Taken;
 use cases::{answer, case};
 use description::Description;

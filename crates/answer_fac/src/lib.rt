@@ -1,5 +1,7 @@
 // Calls 43 and 44 of docs/CASES.md: the FAC, read and written. Nothing here decides an answer. Where the FAC stands in a body, and how
 // it is said, the calls of MDI packets share.
+#![tactic(auto)]
+
 use cases::case;
 use fac::Fac;
 use saying::Said;

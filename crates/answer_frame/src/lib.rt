@@ -1,4 +1,6 @@
 // Call 16 of docs/CASES.md: a frame built from its streams. Nothing here decides an answer.
+#![tactic(auto)]
+
 ghost use Rattle.std.specs.Prelude.{◌≤◌, length};
 
 use cases::case::Taken;

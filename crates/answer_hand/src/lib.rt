@@ -1,4 +1,6 @@
 // Calls 33 and 34 of docs/CASES.md: the settings of a shared stream, and what a frame hands out. Nothing here decides an answer.
+#![tactic(auto)]
+
 use cases::case;
 use hand::{Settings, Three};
 use saying::Said;

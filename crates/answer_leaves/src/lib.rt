@@ -1,5 +1,7 @@
 // Calls 1 to 5 of docs/CASES.md: check words, dispersal, big-endian numbers. Nothing here decides an answer: each function is handed what
 // stands in the case, calls the library once, and says what came back.
+#![tactic(auto)]
+
 use cases::case;
 use saying::Said;
 

@@ -1,5 +1,7 @@
 // Calls 40 and 41 of docs/CASES.md: MDI packets read. Nothing here decides an answer: each function hands what stands in a case to the
 // library, and says what came back. A record is large, so each function says one part of it.
+#![tactic(auto)]
+
 use cases::{answer, case};
 use record::{Record, Time};
 use saying::Said;

@@ -1,5 +1,7 @@
 // Calls 42 and 45 of docs/CASES.md: an MDI packet written, and whether one follows another. Nothing here decides an answer: what stands in a
 // case becomes a record, part by part, since it is large.
+#![tactic(auto)]
+
 use answer_frame::Four;
 use cases::case::Taken;
 use cases::{answer, case};

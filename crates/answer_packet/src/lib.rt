@@ -1,4 +1,6 @@
 // Calls 30 to 32 of docs/CASES.md: one data packet. Nothing here decides an answer.
+#![tactic(auto)]
+
 use cases::case;
 use packet::Head;
 use saying::Said;

@@ -1,5 +1,7 @@
 // Calls of docs/CASES.md that are handed at most one buffer to read and one to write to. What stands in a case is read by the form of its
 // call, and a function of one of the libraries below says what came back. A new call is such a function, its form, and a line of `say`.
+#![tactic(auto)]
+
 use cases::case;
 use saying::Said;
 

@@ -1,5 +1,7 @@
 // Calls 35 to 37 of docs/CASES.md: scripts of steps over a sender and a receiver, each step handed what the last one left. Nothing here
 // decides an answer.
+#![tactic(auto)]
+
 use cases::case;
 use saying::Said;
 

@@ -1,4 +1,6 @@
 // Loads and frames: the steps of call 35 (docs/CASES.md). Those of call 37 go the same way. Nothing here decides an answer.
+#![tactic(auto)]
+
 use cases::case::Taken;
 use cases::{answer, case};
 use hand::{Settings, Three};

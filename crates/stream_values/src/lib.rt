@@ -1,5 +1,7 @@
 // How far a script of calls 35 to 37 (docs/CASES.md) is run; the states of sender and receiver, as a body has them and as an answer gives
 // them.
+#![tactic(auto)]
+
 use cases::case;
 use queue::Queue;
 use receiver::{Link, Receiver};
