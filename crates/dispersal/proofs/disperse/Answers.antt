@@ -1,4 +1,4 @@
--- `dispersal::disperse` meets its contract. The invariant: the first i bytes of the output are those of the dispersed input, the
+-- `dispersal::disperse` meets its contract. Assumes nothing.
 use mathlib.Core.Path.{refl, sym, ap, ◌∙◌}
 use native.Mathlib.Omega.{arith}
 use lib.ListN.{length-set}

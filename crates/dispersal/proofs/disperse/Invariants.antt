@@ -1,4 +1,5 @@
--- What the loop of `disperse` keeps, and how it ends. Assumes nothing.
+-- What the loop of `disperse` keeps: the first i bytes of the output are those of the dispersed input, the others stand as they were;
+-- the low nine of the bits are the register after i bytes, and the nine above them those before it. Assumes nothing.
 use mathlib.Core.Path.{◌≡◌}
 use Prim.Native.Nat.{◌-◌, ◌/◌, ◌%◌, ◌≤◌}
 use lib.ListN.{length, take}
