@@ -1,8 +1,15 @@
 -- The answer of every call that writes (01, "Numbers given back": a refusal writes nothing). Assumes nothing.
-use Rattle.std.specs.Prelude.{ℕ, eqb}
+use Rattle.std.specs.Prelude.{ℕ, Result, Ok, Err, eqb}
 use Rattle.laws.specs.Pick.{pick}
+use Rattle.refusal.specs.declared.Refusal.{Refusal}
+use Rattle.refusal.specs.Refusal.{number_of}
 use Rattle.moves.specs.declared.Wrote.{Wrote}
 
 -- the number, and so many bytes written where it is 0
 abbrev pub wrote_of : ℕ → ℕ → Wrote
 wrote_of number size = record { number = number; length = pick (eqb number 0) size 0 }
+
+-- what such an answer says: number and bytes written
+abbrev pub wrote_in : Result ℕ Refusal → Wrote
+wrote_in (Ok n) = record { number = 0; length = n }
+wrote_in (Err r) = record { number = number_of r; length = 0 }
