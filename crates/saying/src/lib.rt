@@ -2,10 +2,12 @@
 // compared with the second program.
 #![tactic(auto)]
 
-ghost use Rattle.std.specs.Prelude.{◌≡◌, ◌&&◌, ◌≤◌, max};
+ghost use Rattle.std.specs.Prelude.{◌≡◌, ◌&&◌, ◌≤◌, max, IfOk};
+ghost use Rattle.refusal.specs.Refusal.{number_in, placed_number_in, place_in};
 ghost use Rattle.saying.specs.Values.{begun, with};
 
 use cases::answer;
+use refusal::{Refusal, Refused};
 
 // The most values that an answer has.
 const MOST: usize = 256;
@@ -31,6 +33,29 @@ pub fn begin(number: u32, place: u64) -> Said
         place,
         count: 0,
         value,
+    }
+}
+
+// Number and value of a call's answer; of a refusal the values that an answer has then (docs/CASES.md): all zeros.
+pub fn numbered<T: Default + Drop>(answer: Result<T, Refusal>) -> (u32, T)
+    ensures number { result.0 ≡ number_in answer }
+    ensures value { IfOk answer (λ v. result.1 ≡ v) }
+{
+    match answer {
+        Ok(value) => (0, value),
+        Err(why) => (why.number(), T::default()),
+    }
+}
+
+// Number, place and value, of a call whose refusals have a place.
+pub fn placed<T: Default + Drop>(answer: Result<T, Refused>) -> (u32, u64, T)
+    ensures number { result.0 ≡ placed_number_in answer }
+    ensures place { result.1 ≡ place_in answer }
+    ensures value { IfOk answer (λ v. result.2 ≡ v) }
+{
+    match answer {
+        Ok(value) => (0, 0, value),
+        Err(refused) => (refused.why.number(), refused.place, T::default()),
     }
 }
 
