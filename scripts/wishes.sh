@@ -1,6 +1,6 @@
 #!/bin/sh
 # wishes.sh: whether scripts/night.awk makes of wishes the numbers that the program night reads. Status 0 where it does. The places are
-# those of crates/night_plan/src/lib.rt, so that names and program cannot part.
+# those of crates/night_plan/src/wish.rt, so that names and program cannot part.
 set -eu
 cd "$(dirname "$0")/.."
 usual=$(cat crates/night/args)
@@ -14,13 +14,13 @@ fail() {
 
 # line CONSTANT OFFSET: the number's line, counted from 1
 line() {
-    first=$(sed -n "s/^pub const $1: usize = \([0-9]*\);\$/\1/p" crates/night_plan/src/lib.rt)
+    first=$(sed -n "s/^const $1: usize = \([0-9]*\);\$/\1/p" crates/night_plan/src/wish.rt)
     [ -n "$first" ] || fail "there is no place $1 in night_plan"
-    echo $((first + $2 + 1))
+    echo $((first + $2))
 }
 
 [ "$(numbers '')" = "$usual" ] || fail "without a wish it is not the usual night"
-[ "$(echo "$usual" | wc -l)" -eq "$(line NUMBERS -1)" ] || fail "the usual night has not as many numbers as the program reads"
+[ "$(echo "$usual" | wc -l)" -eq "$(line LOSE 0)" ] || fail "the usual night has not as many numbers as the program reads"
 while read -r name constant offset; do
     at=$(line "$constant" "$offset")
     for wish in "$name" "$(echo "$name" | tr '[:lower:]' '[:upper:]')"; do

@@ -5,45 +5,29 @@
 mod fit;
 mod send;
 
-use night_hear::Heard;
-use night_plan::SLOTS;
+use night_book::Book;
 use receiver::Receiver;
-use send::Sent;
 use sender::Sender;
 
-const FRAME: usize = 8190;
-
-// All frames of the night: the sender makes one, the receiver gets its packets. The book after it.
-fn play(
-    rt: &impl Print,
-    book: [usize; SLOTS],
-    store: &mut [u8],
-    buffer: &mut [u8],
-) -> [usize; SLOTS] {
-    let mut out = [0u8; FRAME];
-    let s = Sender::fresh();
-    let mut r = Receiver::fresh();
-    let mut n = Sent { s, book };
-    let mut left = book[night_plan::FRAMES];
-    while 0 < left {
-        n = send::send(rt, n, store, &mut out);
-        let book = n.book;
-        let heard = night_hear::hear_all(rt, Heard { r, book }, &out, buffer);
-        r = heard.r;
-        let s = n.s;
-        let book = heard.book;
-        n = send::end(rt, s, book);
-        left -= 1;
+// All frames of the night: the sender makes one, the receiver gets its packets.
+fn play(rt: &impl Print, book: &mut Book, store: &mut [u8], buffer: &mut [u8]) {
+    let mut out = [0u8; 8190];
+    let mut sender = Sender::fresh();
+    let mut receiver = Receiver::fresh();
+    for _ in 0..book.plan.frames {
+        send::send(rt, &mut sender, book, store, &mut out);
+        night_hear::hear_all(rt, &mut receiver, book, &out, buffer);
+        send::end(rt, &sender, book);
     }
-    n.book
 }
 
 fn main(rt: HostRuntime) {
     let mut store = [0u8; 12288];
     let mut buffer = [0u8; 16384];
-    let book = night_plan::arguments(&rt);
-    if fit::is_fit(&rt, book, &mut store) {
-        night_book::head(&rt, book);
-        night_book::end(&rt, play(&rt, book, &mut store, &mut buffer));
+    let mut book = Book::new(night_plan::arguments(&rt));
+    if fit::is_fit(&rt, &book, &mut store) {
+        book.head(&rt);
+        play(&rt, &mut book, &mut store, &mut buffer);
+        book.end(&rt);
     }
 }

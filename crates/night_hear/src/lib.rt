@@ -1,77 +1,46 @@
 // The hearing side of the night: each packet of a frame that is not lost to the receiver, and what it brought to the book.
 #![tactic(auto)]
 
-use night_plan::{SLOTS, list};
+use night_book::Book;
 use receiver::{Answer, Receiver};
 
-// Receiver and numbers, by value: the prover pays more for what is lent on and on.
-#[derive(Clone, Copy)]
-pub struct Heard {
-    pub r: Receiver,
-    pub book: [usize; SLOTS],
-}
-
-// What a packet brought.
-fn take(rt: &impl Print, book: [usize; SLOTS], answer: Answer, buffer: &[u8]) -> [usize; SLOTS] {
-    if let Answer::Delivered { id, length } = answer {
-        let id = (id % 4) as usize;
-        let at = id * 4096;
-        return night_book::deliver(
-            rt,
-            book,
-            id,
-            list::between(buffer, at, list::plus(at, length)),
-        );
-    }
-    book
+// A packet of the stream is lost on the way, the packets being counted from 1.
+fn is_lost(book: &Book) -> bool {
+    book.passed.checked_rem(book.plan.lose) == Some(0)
 }
 
 // One packet to the receiver.
-fn hear(rt: &impl Print, n: Heard, packet: &[u8], buffer: &mut [u8]) -> Heard {
-    let r = n.r;
-    let book = n.book;
-    let told = r.step(book[night_plan::P], buffer, packet);
-    let answer = told.answer;
-    let dropped = told.dropped;
-    let book = night_book::drop_bytes(book, dropped);
-    let book = take(rt, book, answer, buffer);
-    let r = told.next;
-    Heard { r, book }
-}
-
-// A packet of the stream is lost on the way, the packets being counted from 1.
-fn is_lost(book: [usize; SLOTS], packet: usize) -> bool {
-    let each = book[night_plan::LOSE];
-    if each == 0 {
-        return false;
+fn hear(
+    rt: &impl Print,
+    receiver: &mut Receiver,
+    book: &mut Book,
+    packet: &[u8],
+    buffer: &mut [u8],
+) {
+    let told = receiver.step(book.plan.p, buffer, packet);
+    *receiver = told.next;
+    book.drop_bytes(told.dropped);
+    if let Answer::Delivered { id, length } = told.answer {
+        let id = usize::from(id % 4);
+        let at = id * 4096;
+        let unit = buffer.get(at..at.wrapping_add(length)).unwrap_or_default();
+        book.deliver(rt, id, unit);
     }
-    packet % each == 0
-}
-
-// The next packet of the stream: it reaches the receiver, or it is lost.
-fn pass(rt: &impl Print, n: Heard, packet: &[u8], buffer: &mut [u8]) -> Heard {
-    let r = n.r;
-    let mut book = n.book;
-    let number = list::plus(book[night_book::PASSED], 1);
-    book[night_book::PASSED] = number;
-    if is_lost(book, number) {
-        return Heard { r, book };
-    }
-    hear(rt, Heard { r, book }, packet, buffer)
 }
 
 // The packets of a frame, in order.
-pub fn hear_all(rt: &impl Print, n: Heard, frame: &[u8], buffer: &mut [u8]) -> Heard {
-    let book = n.book;
-    let size = list::plus(book[night_plan::P], 3);
-    let mut next = n;
-    let mut at: usize = 0;
-    let mut left = book[night_plan::N];
-    while 0 < left {
-        let end = list::plus(at, size);
-        next = pass(rt, next, list::between(frame, at, end), buffer);
-        at = end;
-        left -= 1;
+pub fn hear_all(
+    rt: &impl Print,
+    receiver: &mut Receiver,
+    book: &mut Book,
+    frame: &[u8],
+    buffer: &mut [u8],
+) {
+    let size = book.plan.p.wrapping_add(3).max(1);
+    for packet in frame.chunks(size).take(book.plan.n) {
+        book.passed = book.passed.wrapping_add(1);
+        if !is_lost(book) {
+            hear(rt, receiver, book, packet, buffer);
+        }
     }
-    next
 }
