@@ -14,7 +14,8 @@ pub fn crc16(s: &[u8]) -> Said {
 }
 
 pub fn disperse(input: &[u8], output: &mut [u8]) -> Said {
-    saying::begin(dispersal::disperse(input, output), 0)
+    let (number, ()) = saying::numbered(dispersal::disperse(input, output));
+    saying::begin(number, 0)
 }
 
 fn is_width(width: u8) -> bool {

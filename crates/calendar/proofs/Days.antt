@@ -8,6 +8,7 @@ use native.Mathlib.Omega.{arith}
 use borrow.Author.Tests.{eq-eqb, ne_eqb, leb-true, leb-false}
 use lib.Dec.{eqb, leb}
 use Rattle.laws.specs.Pick.{pick}
+use Rattle.laws.proofs.Table.{below}
 use Rattle.calendar.specs.Calendar.{leap, year_days, month_days, days_of_years, days_of_months}
 
 -- ---- leap years
@@ -106,5 +107,13 @@ module _ (l : Bool) (days count rest size : ℕ) (e : days_of_months l count + r
 
 -- ---- one month's days, from the table of the long and of the short year
 
-pub month_is : (l b : Bool) (m n r : ℕ) → l ≡ b → n ≡ month_days b m → (r ≡ n) × (r < 256) → (r ≡ month_days l m) × (r < 256)
-month_is l b m n r e f g = (g.0 ∙ f ∙ ap (λ (k : Bool). month_days k m) (sym e), g.1)
+-- below 256: computed for each
+small : (l : Bool) (m : ℕ) → m < 13 → month_days l m % 256 ≡ month_days l m
+unfolding month_days
+small true m h = below (λ k. month_days true k % 256) (λ k. month_days true k) 13 tt m h
+small false m h = below (λ k. month_days false k % 256) (λ k. month_days false k) 13 tt m h
+
+pub month_is : (l b : Bool) (m r : ℕ) → m ≤ 12 → l ≡ b → r ≡ month_days b m → (r ≡ month_days l m) × (r < 256)
+month_is l b m r h e f =
+    let q : r % 256 ≡ r = ap (λ n. n % 256) f ∙ small b m (omega arith) ∙ sym f in
+    (f ∙ ap (λ (k : Bool). month_days k m) (sym e), omega arith)

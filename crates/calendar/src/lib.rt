@@ -37,31 +37,23 @@ fn is_leap(year: u64) -> bool
 fn year_days(year: u64) -> u64
     ensures { (result ≡ year_days year) × (365 ≤ result) × (result ≤ 366) }
 {
-    if is_leap(year) {
-        return 366;
-    }
-    365
+    if is_leap(year) { 366 } else { 365 }
 }
 
 // The days of each month, from 1 on, in a year of 366 days and in one of 365.
-const LONG: [u8; 13] = [0, 31, 29, 31, 30, 31, 30, 31, 31, 30, 31, 30, 31];
+const LONG: [u64; 13] = [0, 31, 29, 31, 30, 31, 30, 31, 31, 30, 31, 30, 31];
 
-const SHORT: [u8; 13] = [0, 31, 28, 31, 30, 31, 30, 31, 31, 30, 31, 30, 31];
-
-fn wide(b: u8) -> u64
-    ensures { (result ≡ b) × (result < 256) }
-{
-    b as u64
-}
+const SHORT: [u64; 13] = [0, 31, 28, 31, 30, 31, 30, 31, 31, 30, 31, 30, 31];
 
 fn month_days(long: bool, month: u64) -> u64
     requires { month ≤ 12 }
     ensures { (result ≡ month_days long month) × (result < 256) }
 {
     if long {
-        return wide(LONG[month as usize]);
+        LONG[month as usize]
+    } else {
+        SHORT[month as usize]
     }
-    wide(SHORT[month as usize])
 }
 
 // The years from 2000 on: 400 of them have 146,097 days, wherever they begin.

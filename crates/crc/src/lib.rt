@@ -8,26 +8,14 @@ ghost use Rattle.crc.specs.Crc.{crc_of, feed, bits_of};
 pub fn crc8(s: &[u8]) -> u8
     ensures { result ≡ crc_of 8 0x1d s.now }
 {
-    let mut crc: u8 = 0xff;
-    let mut i = 0;
-    while i < s.len() {
-        crc = step8(crc, s[i]);
-        i += 1;
-    }
-    !crc
+    !s.iter().fold(0xff, |crc, byte| step8(crc, *byte))
 }
 
 // CRC-16, x^16 + x^12 + x^5 + 1.
 pub fn crc16(s: &[u8]) -> u16
     ensures { result ≡ crc_of 16 0x1021 s.now }
 {
-    let mut crc: u16 = 0xffff;
-    let mut i = 0;
-    while i < s.len() {
-        crc = step16(crc, s[i]);
-        i += 1;
-    }
-    !crc
+    !s.iter().fold(0xffff, |crc, byte| step16(crc, *byte))
 }
 
 // The register after one byte: the byte is added at the top, and eight turns with no data follow. A loop of eight turns of just
@@ -40,7 +28,7 @@ fn step8(crc: u8, b: u8) -> u8
         if 0x80 <= c {
             c = (c << 1) ^ 0x1d;
         } else {
-            c = c << 1;
+            c <<= 1;
         }
     }
     c
@@ -54,7 +42,7 @@ fn step16(crc: u16, b: u8) -> u16
         if 0x8000 <= c {
             c = (c << 1) ^ 0x1021;
         } else {
-            c = c << 1;
+            c <<= 1;
         }
     }
     c

@@ -3,7 +3,10 @@
 #![tactic(auto)]
 
 ghost use Rattle.std.specs.Prelude.{◌≡◌, ◌/◌, ◌%◌};
+ghost use Rattle.refusal.specs.Refusal.{number_in};
 ghost use Rattle.dispersal.specs.Dispersal.{push, next, number_for, output_for};
+
+use refusal::Refusal;
 
 // The last bits of the sequence, with eight more behind them. The newest stands lowest: the low nine are the register, the nine above them
 // those that left it last. Each bit is the sum modulo 2 of those 5 and 9 places before it, and so of those 10 and 18 places before it
@@ -17,25 +20,21 @@ fn eight_more(bits: u32) -> u32
     (bits << 8) + ((bits >> 2) ^ (bits >> 10)) % 256
 }
 
-// Writes the input, dispersed, to the front of the output. Refused with 1: an input over 65,528 bytes, an output shorter than the input.
-pub fn disperse(input: &[u8], output: &mut [u8]) -> u32
-    ensures answer { result ≡ number_for input.now output.old }
+// Writes the input, dispersed, to the front of the output. Refused: an input over 65,528 bytes, an output shorter than the input.
+pub fn disperse(input: &[u8], output: &mut [u8]) -> Result<(), Refusal>
+    ensures answer { number_in result ≡ number_for input.now output.old }
     ensures memory { output.new ≡ output_for input.now output.old }
 {
-    if 65528 < input.len() {
-        return 1;
-    }
-    if output.len() < input.len() {
-        return 1;
+    if 65528 < input.len() || output.len() < input.len() {
+        return Err(Refusal::Size);
     }
     // Nine ones, and above them the nine bits that the rule, read backwards, gives before them: 011110000.
     let mut bits: u32 = 0x1e1ff;
-    let mut i = 0;
-    while i < input.len() {
+    // Kept: the output goes by its index, since nothing is proved of what a zip with iter_mut leaves.
+    for (i, byte) in input.iter().enumerate() {
         let more = eight_more(bits);
-        output[i] = input[i] ^ ((more % 256) as u8);
+        output[i] = byte ^ (more % 256) as u8;
         bits = more;
-        i += 1;
     }
-    0
+    Ok(())
 }

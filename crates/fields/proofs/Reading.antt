@@ -8,7 +8,7 @@ use borrow.Author.Tests.{le-leb, lt-leb}
 use lib.Arith.{digits_lt}
 use lib.ListN.{length, get_or, take, drop, length-drop}
 use lib.Pow.{pow-add, pow_mono, pow_pos}
-use lib.Seq.{take-add, drop-drop, drop-cons, length-take-le}
+use lib.Seq.{take-add, drop-drop, drop-cons, length-take-le, get_or-take, get_or-drop}
 use Rattle.laws.specs.Big.{big_of, number_at}
 use Rattle.laws.proofs.Big.{big_append}
 
@@ -60,3 +60,7 @@ bits_room n r h k = omega (arith, pow_mono {i = 8 * n} {j = 56} (omega arith))
 -- the answer where the number is not there
 pub read_out : (n : ℕ) (s : List ℕ) (at : ℕ) → length s < at + n → (0 ≡ number_at n s at) × (0 < 2 ^ (8 * n))
 read_out n s at h = (sym (number_out n s at h), pow_pos (8 * n))
+
+-- a byte of a part of the slice
+pub part_byte : (k : ℕ) (s : List ℕ) (at i : ℕ) → i < k → get_or (take k (drop at s)) i 0 ≡ get_or s (at + i) 0
+part_byte k s at i h = get_or-take k (drop at s) i 0 h ∙ get_or-drop at s i 0

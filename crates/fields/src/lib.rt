@@ -48,45 +48,28 @@ fn read(n: usize, s: &[u8], at: usize) -> u64
     requires { n ≤ 8 }
     ensures { (result ≡ number_at n s.now at) × (result < 2 ^ (8 * n)) }
 {
-    let len = s.len();
-    if len < n {
+    if s.len() < n || s.len() - n < at {
         return 0;
     }
-    if len - n < at {
-        return 0;
+    let bytes = &s[at..at + n];
+    let mut number: u64 = 0;
+    for byte in bytes {
+        number = number * 256 + *byte as u64;
     }
-    let mut r: u64 = 0;
-    let mut i = 0;
-    while i < n {
-        r = r * 256 + wide(s[at + i]);
-        i += 1;
-    }
-    r
-}
-
-fn wide(b: u8) -> u64
-    ensures { (result ≡ b) × (result < 256) }
-{
-    b as u64
+    number
 }
 
 // Writes the low n bytes of v at the offset, the last byte first.
 fn write(n: usize, dst: &mut [u8], at: usize, v: u64) -> bool
     ensures { (result ≡ leb (at + n) (length dst.old)) × (dst.new ≡ put_at n dst.old at v) }
 {
-    let room = dst.len();
-    if room < n {
-        return false;
-    }
-    if room - n < at {
+    if dst.len() < n || dst.len() - n < at {
         return false;
     }
     let mut rest = v;
-    let mut i = n;
-    while 0 < i {
-        i -= 1;
+    for i in (0..n).rev() {
         dst[at + i] = (rest % 256) as u8;
-        rest = rest / 256;
+        rest /= 256;
     }
     true
 }

@@ -1,4 +1,5 @@
--- The promises of the receiver's calls settle them; the others have the library's own promises, whose theorems stand beside the library's calls.
+-- The promises of the receiver's calls and of dispersal settle them; the others have the library's own promises, whose theorems stand beside the
+-- library's calls.
 -- Assumes nothing.
 use mathlib.Core.Path.{◌≡◌}
 use mathlib.Core.List.{List}
@@ -6,6 +7,7 @@ use Prim.Native.Nat.{ℕ}
 use lib.ListN.{length}
 use Rattle.laws.specs.Settle.{Settles}
 use Rattle.laws.proofs.Settle.{settled, settled_both}
+use Rattle.dispersal.specs.Dispersal.{number_for, output_for}
 use Rattle.receiver.specs.declared.Receiver.{Receiver}
 use Rattle.receiver.specs.Receiver.{buffer_for}
 use Rattle.host.specs.declared.Received.{Received}
@@ -19,3 +21,7 @@ receiver_fresh = settled (λ i. unheard)
 pub receive : Settles (λ (i : ℕ × Receiver × List ℕ × List ℕ) (o : Received × List ℕ).
     (o.0 ≡ received_for i.0 i.1 i.2 (length i.3)) × (o.1 ≡ buffer_for i.0 i.1 i.2 i.3))
 receive = settled_both (λ i. received_for i.0 i.1 i.2 (length i.3)) (λ i. buffer_for i.0 i.1 i.2 i.3)
+
+-- `keshgurvat_disperse`: an input is the input and the output before the call
+pub disperse : Settles (λ (i : List ℕ × List ℕ) (o : ℕ × List ℕ). (o.0 ≡ number_for i.0 i.1) × (o.1 ≡ output_for i.0 i.1))
+disperse = settled_both (λ i. number_for i.0 i.1) (λ i. output_for i.0 i.1)

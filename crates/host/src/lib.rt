@@ -6,6 +6,7 @@
 ghost use Rattle.std.specs.Prelude.{◌≡◌, length};
 ghost use Rattle.dispersal.specs.Dispersal.{number_for, output_for};
 ghost use Rattle.packet.specs.Calls.{check_for};
+ghost use Rattle.refusal.specs.Refusal.{number_in};
 ghost use Rattle.hand.specs.Settings.{settings_for};
 ghost use Rattle.receiver.specs.Receiver.{buffer_for};
 ghost use Rattle.receiver.specs.Dropped.{report_for};
@@ -14,6 +15,7 @@ ghost use Rattle.host.specs.Received.{unheard, received_by, received_for, said};
 
 use hand::Settings;
 use receiver::{Answer, Receiver};
+use refusal::Refusal;
 use sender::{Framed, Loaded, Sender};
 
 // What a packet brought: the number; whether a unit is complete, its id and length, all 0 where none is; the bytes of an open unit that were
@@ -34,7 +36,17 @@ pub extern "C" fn keshgurvat_disperse(input: &[u8], output: &mut [u8]) -> u32
     ensures answer { result ≡ number_for input.now output.old }
     ensures memory { output.new ≡ output_for input.now output.old }
 {
-    dispersal::disperse(input, output)
+    number(dispersal::disperse(input, output))
+}
+
+// The number of an answer.
+fn number(answer: Result<(), Refusal>) -> u32
+    ensures { result ≡ number_in answer }
+{
+    match answer {
+        Ok(()) => 0,
+        Err(why) => why.number(),
+    }
 }
 
 #[unsafe(no_mangle)]

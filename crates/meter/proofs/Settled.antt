@@ -1,4 +1,4 @@
--- The promises of the exports for MDI packets settle them; the others have the library's own promises, whose theorems stand beside the library's
+-- The promises of the exports for MDI packets and of dispersal settle them; the others have the library's own promises, whose theorems stand beside the library's
 -- calls. Assumes nothing.
 use Prim.Native.Nat.{ℕ}
 use mathlib.Core.List.{List}
@@ -6,6 +6,7 @@ use mathlib.Core.Path.{◌≡◌}
 use lib.ListN.{length}
 use Rattle.laws.specs.Settle.{Settles}
 use Rattle.laws.proofs.Settle.{settled, settled_both}
+use Rattle.dispersal.specs.Dispersal.{number_for, output_for}
 use Rattle.mdi_write.specs.Answers.{out_for}
 use Rattle.mdi_write.specs.Packet.{four}
 use Rattle.meter.specs.declared.Seen.{Seen}
@@ -22,3 +23,7 @@ pub mdi_write : Settles (λ (i : ℕ × List ℕ × List ℕ × List ℕ × ℕ 
 mdi_write =
     settled_both (λ i. wrote_for (record_for i.0 i.1 i.2 i.3 i.4 i.5) (four i.6 i.7 i.8 i.9) (length i.10))
     (λ i. out_for (record_for i.0 i.1 i.2 i.3 i.4 i.5) (four i.6 i.7 i.8 i.9) i.10)
+
+-- an input is the input and the output before the call
+pub disperse : Settles (λ (i : List ℕ × List ℕ) (o : ℕ × List ℕ). (o.0 ≡ number_for i.0 i.1) × (o.1 ≡ output_for i.0 i.1))
+disperse = settled_both (λ i. number_for i.0 i.1) (λ i. output_for i.0 i.1)

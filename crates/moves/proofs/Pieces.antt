@@ -1,25 +1,23 @@
 -- What `put` answers and leaves, and pieces written one behind the other. Assumes nothing.
 use mathlib.Core.Path.{◌≡◌, refl, sym, ap₂, ◌∙◌, subst}
 use mathlib.Core.List.{List, [], ◌++◌}
-use Prim.Native.Nat.{ℕ, ◌+◌, ◌-◌, ◌≤◌, ◌<◌}
+use mathlib.Core.Bool.{Bool, true, false}
+use lib.Dec.{leb}
+use Prim.Native.Nat.{ℕ, ◌+◌, ◌≤◌}
 use native.Mathlib.Omega.{arith}
-use borrow.Author.Tests.{le-leb, lt-leb}
+use borrow.Author.Tests.{le-leb}
 use lib.ListN.{length, length-append}
 use Rattle.laws.proofs.Written.{written_none, write_next}
 use Rattle.moves.specs.Moves.{placed, behind, Puts}
 
-module _ (src dst : List ℕ) (at : ℕ) where
-  pub too_long : length dst < length src → (at ≡ behind dst at src) × (dst ≡ placed dst at src)
-  unfolding behind placed
-  too_long h = rw (lt-leb (at + length src) (length dst) (omega arith)) (refl, refl)
+-- the answer, by the test
+pub end_in : (d : List ℕ) (at : ℕ) (xs : List ℕ) (room : Bool) → room ≡ leb (at + length xs) (length d) → room ≡ true → at + length xs ≡ behind d at xs
+unfolding behind
+end_in d at xs room e t = rw (sym e ∙ t) refl
 
-  pub too_far : length src ≤ length dst → length dst - length src < at → (at ≡ behind dst at src) × (dst ≡ placed dst at src)
-  unfolding behind placed
-  too_far l h = rw (lt-leb (at + length src) (length dst) (omega arith)) (refl, refl)
-
-  pub done : length src ≤ length dst → at ≤ length dst - length src → (e : List ℕ) → e ≡ placed dst at src → (at + length src ≡ behind dst at src) × (e ≡ placed dst at src)
-  unfolding behind
-  done l h e q = let f = le-leb (at + length src) (length dst) (omega arith) in (rw f refl, q)
+pub end_out : (d : List ℕ) (at : ℕ) (xs : List ℕ) (room : Bool) → room ≡ leb (at + length xs) (length d) → room ≡ false → at ≡ behind d at xs
+unfolding behind
+end_out d at xs room e t = rw (sym e ∙ t) refl
 
 -- one piece that fits
 pub puts : (src d e : List ℕ) (at n : ℕ) → at + length src ≤ length d → n ≡ behind d at src → e ≡ placed d at src → Puts d at src e n

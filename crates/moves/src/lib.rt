@@ -1,7 +1,7 @@
 // Bytes put into a lent slice: copied from another, or zeros. Where they have no room there, nothing is written.
 #![tactic(auto)]
 
-ghost use Rattle.std.specs.Prelude.{◌≡◌, replicate};
+ghost use Rattle.std.specs.Prelude.{◌≡◌, ◌+◌, leb, length, replicate};
 ghost use Rattle.moves.specs.Moves.{placed, behind};
 
 // The answer of a call that writes, in this crate and those above it: 01's number, and how many bytes of the output are written, none
@@ -12,20 +12,19 @@ pub struct Wrote {
     pub length: usize,
 }
 
+// Whether n bytes from index at on lie within the slice. The offset may be any number, so the sum is formed only where it has room.
+fn fits(s: &[u8], at: usize, n: usize) -> bool
+    ensures { result ≡ leb (at + n) (length s.now) }
+{
+    at.checked_add(n).is_some_and(|end| end <= s.len())
+}
+
 // Copies all of src into dst from index at on.
 pub fn copy(src: &[u8], dst: &mut [u8], at: usize)
     ensures { dst.new ≡ placed dst.old at src.now }
 {
-    if dst.len() < src.len() {
-        return;
-    }
-    if dst.len() - src.len() < at {
-        return;
-    }
-    let mut j = 0;
-    while j < src.len() {
-        dst[at + j] = src[j];
-        j += 1;
+    if fits(dst, at, src.len()) {
+        dst[at..at + src.len()].copy_from_slice(src);
     }
 }
 
@@ -35,12 +34,7 @@ pub fn put(src: &[u8], dst: &mut [u8], at: usize) -> usize
     ensures answer { result ≡ behind dst.old at src.now }
     ensures memory { dst.new ≡ placed dst.old at src.now }
 {
-    // The offset may be any number, so the sum is formed only once it is known to fit.
-    let room = dst.len();
-    if room < src.len() {
-        return at;
-    }
-    if room - src.len() < at {
+    if !fits(dst, at, src.len()) {
         return at;
     }
     copy(src, dst, at);
@@ -51,15 +45,7 @@ pub fn put(src: &[u8], dst: &mut [u8], at: usize) -> usize
 pub fn clear(dst: &mut [u8], at: usize, n: usize)
     ensures { dst.new ≡ placed dst.old at (replicate n 0) }
 {
-    if dst.len() < n {
-        return;
-    }
-    if dst.len() - n < at {
-        return;
-    }
-    let mut j = 0;
-    while j < n {
-        dst[at + j] = 0;
-        j += 1;
+    if fits(dst, at, n) {
+        dst[at..at + n].fill(0);
     }
 }

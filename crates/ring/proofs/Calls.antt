@@ -5,7 +5,7 @@ use mathlib.Core.List.{List, ◌++◌}
 use native.Mathlib.Omega.{arith}
 use borrow.Author.Tests.{le-leb, lt-leb}
 use lib.ListN.{length, take, drop, length-drop}
-use lib.Seq.{take-take, take-append-le, take-append-add, length-take-le}
+use lib.Seq.{take-append-le, take-append-add, length-take-le}
 use Rattle.laws.specs.Written.{written}
 use Rattle.laws.proofs.Flags.{and_false}
 use Rattle.laws.proofs.Written.{written_length, write_next}
@@ -68,30 +68,35 @@ module _ (r dst : List ℕ) (at n : ℕ) where
     unfolding copied_out
     out_is = simp (le-leb at (length r) ha, le-leb n (length r) hn, le-leb n (length dst) hd)
 
-    pub out_one : (a d : List ℕ) → n ≤ length r - at → a ≡ take n (drop at r) → d ≡ placed dst 0 a → d ≡ copied_out r at n dst
-    unfolding turned
-    out_one a d h ea ed =
-        let la : length a ≡ n = ap length ea ∙ length-take-le n (drop at r) (omega (arith, length-drop at r)) in
-        ed
-        ∙ placed_is dst 0 a (omega arith)
-        ∙ ap (written dst 0) (ea ∙ sym (take-append-le n (drop at r) (take at r) (omega (arith, length-drop at r))))
-        ∙ sym out_is
+    -- in the terms of the call: f and k are the ring before the place and from it on
+    module _ (f k : List ℕ) (ef : f ≡ take at r) (ek : k ≡ drop at r) where
+      lk : length k ≡ length r - at
+      lk = ap length ek ∙ length-drop at r
 
-    pub out_two : (a b d e : List ℕ) → length r - at < n → a ≡ drop at r → b ≡ take (n - (length r - at)) r → d ≡ placed dst 0 a → e ≡ placed d (length r - at) b
-        → e ≡ copied_out r at n dst
-    unfolding turned
-    out_two a b d e h ea eb ed ee =
-        let k = length r - at in
-        let m = n - k in
-        let la : length a ≡ k = ap length ea ∙ length-drop at r in
-        let lb : length b ≡ m = ap length eb ∙ length-take-le m r (omega arith) in
-        let w : d ≡ written dst 0 a = ed ∙ placed_is dst 0 a (omega arith) in
-        let ld : length d ≡ length dst = ap length w ∙ written_length dst 0 a (omega arith) in
-        let z : n ≡ length (drop at r) + m = omega (arith, length-drop at r) in
-        ee
-        ∙ placed_is d k b (omega arith)
-        ∙ write_next dst d 0 a b k (omega arith) (omega arith) w
-        ∙ ap (written dst 0)
-        (ap₂ (λ (x y : List ℕ). x ++ y) ea (eb ∙ sym (take-take m at r (omega arith)))
-        ∙ sym (ap (λ (j : ℕ). take j (drop at r ++ take at r)) z ∙ take-append-add (drop at r) (take at r) m))
-        ∙ sym out_is
+      pub out_one : (d : List ℕ) (m : ℕ) → n ≤ length k → d ≡ placed dst 0 (take m k) → m ≡ n → d ≡ copied_out r at n dst
+      unfolding turned
+      out_one d m h ed z =
+          let l = lk in
+          let la : length (take m k) ≡ n = length-take-le m k (omega arith) ∙ z in
+          ed
+          ∙ placed_is dst 0 (take m k) (omega arith)
+          ∙ ap (written dst 0) (ap₂ take z ek ∙ sym (take-append-le n (drop at r) (take at r) (omega (arith, length-drop at r))))
+          ∙ sym out_is
+
+      pub out_two : (d e : List ℕ) (m : ℕ) → length k < n → d ≡ placed dst 0 k → e ≡ placed d (length k) (take m f) → m ≡ n - length k
+          → e ≡ copied_out r at n dst
+      unfolding turned
+      out_two d e m h ed ee y =
+          let l = lk in
+          let lf : length f ≡ at = ap length ef ∙ length-take-le at r ha in
+          let lb : length (take m f) ≡ m = length-take-le m f (omega arith) in
+          let w : d ≡ written dst 0 k = ed ∙ placed_is dst 0 k (omega arith) in
+          let ld : length d ≡ length dst = ap length w ∙ written_length dst 0 k (omega arith) in
+          let z : n ≡ length (drop at r) + m = omega (arith, length-drop at r) in
+          ee
+          ∙ placed_is d (length k) (take m f) (omega arith)
+          ∙ write_next dst d 0 k (take m f) (length k) (omega arith) (omega arith) w
+          ∙ ap (written dst 0)
+          (ap₂ (λ (x y : List ℕ). x ++ y) ek (ap (take m) ef)
+          ∙ sym (ap (λ (j : ℕ). take j (drop at r ++ take at r)) z ∙ take-append-add (drop at r) (take at r) m))
+          ∙ sym out_is

@@ -8,42 +8,31 @@ ghost use Rattle.ring.specs.Ring.{copied_out, copied_in};
 pub fn copy_out(ring: &[u8], at: usize, n: usize, dst: &mut [u8])
     ensures { dst.new ≡ copied_out ring.now at n dst.old }
 {
-    let size = ring.len();
-    if size < at {
+    if ring.len() < at || ring.len() < n || dst.len() < n {
         return;
     }
-    if size < n {
-        return;
+    let (front, back) = ring.split_at(at);
+    if n <= back.len() {
+        moves::copy(&back[..n], dst, 0);
+    } else {
+        moves::copy(back, dst, 0);
+        moves::copy(&front[..n - back.len()], dst, back.len());
     }
-    if dst.len() < n {
-        return;
-    }
-    let k = size - at;
-    if n <= k {
-        moves::copy(&ring[at..at + n], dst, 0);
-        return;
-    }
-    moves::copy(&ring[at..], dst, 0);
-    moves::copy(&ring[0..n - k], dst, k);
 }
 
 // All of src into the ring, from place at on. Where there is no such place or no room, nothing is written.
 pub fn copy_in(src: &[u8], ring: &mut [u8], at: usize)
     ensures { ring.new ≡ copied_in ring.old at src.now }
 {
-    let size = ring.len();
-    let n = src.len();
-    if size < at {
+    if ring.len() < at || ring.len() < src.len() {
         return;
     }
-    if size < n {
-        return;
-    }
-    let k = size - at;
-    if n <= k {
+    let room = ring.len() - at;
+    if src.len() <= room {
         moves::copy(src, ring, at);
-        return;
+    } else {
+        let (head, rest) = src.split_at(room);
+        moves::copy(head, ring, at);
+        moves::copy(rest, ring, 0);
     }
-    moves::copy(&src[0..k], ring, at);
-    moves::copy(&src[k..], ring, 0);
 }

@@ -7,8 +7,8 @@ use Rattle.calendar.proofs.month_days.Goals as goal
 
 pub returns-then-long : goal.returns-then-long
 unfolding month_days
-returns-then-long c = month_is _ true c.args.month _ _ c.if-long.true refl c.wide.ensures
+returns-then-long c = month_is _ true c.args.month _ c.requires c.if-long.true refl
 
-pub returns : goal.returns
+pub returns-else-long : goal.returns-else-long
 unfolding month_days
-returns c = month_is _ false c.args.month _ _ c.if-long.false refl c.wide-2.ensures
+returns-else-long c = month_is _ false c.args.month _ c.requires c.if-long.false refl

@@ -5,5 +5,5 @@ use Rattle.calendar.proofs.year_days.Goals as goal
 pub returns-then-is_leap : goal.returns-then-is_leap
 returns-then-is_leap c = days_leap _ _ c.is_leap.ensures c.if-is_leap.true
 
-pub returns : goal.returns
-returns c = days_other _ _ c.is_leap.ensures c.if-is_leap.false
+pub returns-else-is_leap : goal.returns-else-is_leap
+returns-else-is_leap c = days_other _ _ c.is_leap.ensures c.if-is_leap.false

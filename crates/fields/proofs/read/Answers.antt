@@ -1,46 +1,48 @@
--- `fields::read` meets its contract. The loop's invariant: r is the number of the i bytes passed. Assumes nothing.
-use mathlib.Core.Path.{◌≡◌, sym}
+-- `fields::read` meets its contract. Assumes nothing.
+use mathlib.Core.Path.{sym}
+use Prim.Native.Nat.{◌+◌, ◌-◌, ◌<◌}
 use native.Mathlib.Omega.{arith}
 use lib.Dec.{lit<}
-use Rattle.fields.proofs.Reading.{read_out, number_none, number_more, bits_more, bits_room}
+use lib.ListN.{get_or, drop, length-take}
+use Rattle.fields.proofs.Reading.{read_out, number_none, number_more, bits_more, bits_room, part_byte}
 use Rattle.fields.proofs.read.Goals as goal
+use Rattle.fields.proofs.read.Goals.{then-s-n-via-then-s-n, then-s-n-via-else-s-n+then-s-n-2}
 
-pub returns-then-len-n : goal.returns-then-len-n
-returns-then-len-n c =
+pub returns-then-s-n : goal.returns-then-s-n
+returns-then-s-n c =
     let a = c.args in
-    read_out a.n a.s.now a.at (omega arith)
+    elim c.then-s-n.branch [
+      | then-s-n-via-then-s-n w ↦ read_out a.n a.s.now a.at (omega arith)
+      | then-s-n-via-else-s-n+then-s-n-2 w ↦ read_out a.n a.s.now a.at (omega arith)
+    ]
 
-pub returns-then-len-n-2 : goal.returns-then-len-n-2
-returns-then-len-n-2 c =
+pub loop-byte-init : goal.loop-byte-init
+loop-byte-init c =
     let a = c.args in
-    read_out a.n a.s.now a.at (omega arith)
+    record { is = sym (number_none a.s.now a.at (omega arith)); fits = lit< tt }
 
-pub loop-i-init : goal.loop-i-init
-loop-i-init c =
+pub overflow_mul-number : goal.overflow_mul-number
+overflow_mul-number c =
     let a = c.args in
-    (omega arith, sym (number_none a.s.now a.at (omega arith)), lit< tt)
+    let l = c.loop-byte in
+    let h : l.byte-index < a.n = omega (arith, length-take (a.at + a.n - a.at) (drop a.at a.s.now)) in
+    omega (arith, bits_room l.byte-index l.number (omega arith) l.invariant.fits)
 
-pub overflow_mul-r : goal.overflow_mul-r
-overflow_mul-r c =
-    let l = c.loop-i in
-    omega (arith, bits_room l.i l.r (omega arith) l.invariant.2)
+pub overflow_add-number : goal.overflow_add-number
+overflow_add-number c =
+    let a = c.args in
+    let l = c.loop-byte in
+    let h : l.byte-index < a.n = omega (arith, length-take (a.at + a.n - a.at) (drop a.at a.s.now)) in
+    let e = part_byte (a.at + a.n - a.at) a.s.now a.at l.byte-index (omega arith) in
+    omega (arith, bits_room l.byte-index l.number (omega arith) l.invariant.fits, c.type_inv.s (a.at + l.byte-index), e)
 
-pub overflow_add-r : goal.overflow_add-r
-overflow_add-r c =
-    let l = c.loop-i in
-    omega (arith, bits_room l.i l.r (omega arith) l.invariant.2)
-
-pub loop-i-preserved : goal.loop-i-preserved
-loop-i-preserved c =
-    let l = c.loop-i in
-    let a = c.args in (
-      omega arith,
-      rw (l.invariant.1, c.wide.ensures.0) (number_more l.i a.s.now a.at (omega arith)),
-      bits_more l.i l.r c.wide.result l.invariant.2 c.wide.ensures.1,
-    )
-
-pub returns : goal.returns
-returns c =
-    let l = c.loop-i in
-    let e : l.i ≡ c.args.n = omega arith in
-    rw (← e) (l.invariant.1, l.invariant.2)
+pub loop-byte-preserved : goal.loop-byte-preserved
+loop-byte-preserved c =
+    let a = c.args in
+    let l = c.loop-byte in
+    let h : l.byte-index < a.n = omega (arith, length-take (a.at + a.n - a.at) (drop a.at a.s.now)) in
+    let e = part_byte (a.at + a.n - a.at) a.s.now a.at l.byte-index (omega arith) in
+    let small : get_or a.s.now (a.at + l.byte-index) 0 < 256 = omega (arith, c.type_inv.s (a.at + l.byte-index)) in record {
+      is = rw (e, l.invariant.is) (number_more l.byte-index a.s.now a.at (omega arith));
+      fits = rw e (bits_more l.byte-index l.number _ l.invariant.fits small);
+    }

@@ -1,11 +1,8 @@
--- What the loop of `read` keeps, and how it ends. Assumes nothing.
+-- What the loop of `read` keeps: the number of the bytes passed. Assumes nothing.
 use mathlib.Core.Path.{◌≡◌}
-use Prim.Native.Nat.{◌-◌, ◌*◌, ◌^◌, ◌≤◌, ◌<◌}
+use Prim.Native.Nat.{◌*◌, ◌^◌, ◌<◌}
 use Rattle.laws.specs.Big.{number_at}
 use Rattle.fields.proofs.read.Given as goal
 
-abbrev pub invariant-loop-i : goal.invariant-loop-i
-invariant-loop-i l = (l.i ≤ l.n) × (l.r ≡ number_at l.i l.s l.at) × (l.r < 2 ^ (8 * l.i))
-
-abbrev pub decreases-loop-i : goal.decreases-loop-i
-decreases-loop-i l = l.n - l.i
+abbrev pub invariant-loop-byte : goal.invariant-loop-byte
+invariant-loop-byte l = record { is : l.number ≡ number_at l.byte-index l.s l.at; fits : l.number < 2 ^ (8 * l.byte-index) }

@@ -1,18 +1,17 @@
 -- `moves::put` meets its contract. Assumes nothing.
-use Rattle.moves.proofs.Pieces.{too_long, too_far, done}
+use mathlib.Core.Path.{refl}
+use Rattle.moves.proofs.Turns.{put_out}
+use Rattle.moves.proofs.Pieces.{end_in, end_out}
 use Rattle.moves.proofs.put.Goals as goal
 
-pub returns-then-room-src : goal.returns-then-room-src
-returns-then-room-src c =
-    let a = c.args in
-    let both = too_long a.src.now a.dst.now a.at c.if-room-src.true in record { answer = both.0; memory = both.1 }
+pub returns-then-not-fits-clause-answer : goal.returns-then-not-fits-clause-answer
+returns-then-not-fits-clause-answer c = end_out _ _ _ _ c.fits.ensures c.if-not-fits.true
 
-pub returns-then-room-src-2 : goal.returns-then-room-src-2
-returns-then-room-src-2 c =
-    let a = c.args in
-    let both = too_far a.src.now a.dst.now a.at c.if-room-src.false c.if-room-src-2.true in record { answer = both.0; memory = both.1 }
+pub returns-then-not-fits-clause-memory : goal.returns-then-not-fits-clause-memory
+returns-then-not-fits-clause-memory c = put_out _ _ _ _ _ refl c.fits.ensures c.if-not-fits.true
 
-pub returns : goal.returns
-returns c =
-    let a = c.args in
-    let both = done a.src.now a.dst.now a.at c.if-room-src.false c.if-room-src-2.false _ c.copy.ensures in record { answer = both.0; memory = both.1 }
+pub returns-clause-answer : goal.returns-clause-answer
+returns-clause-answer c = end_in _ _ _ _ c.fits.ensures c.if-not-fits.false
+
+pub returns-clause-memory : goal.returns-clause-memory
+returns-clause-memory c = c.copy.ensures

@@ -1,26 +1,19 @@
 -- `ring::copy_in` meets its contract. Assumes nothing.
-use mathlib.Core.Path.{◌≡◌, ap}
-use Prim.Native.Nat.{◌-◌}
-use native.Mathlib.Omega.{arith}
-use lib.ListN.{length, take, drop, length-drop}
-use lib.Seq.{take_all}
 use Rattle.ring.proofs.Calls.{in_far, in_long, in_one, in_two}
 use Rattle.ring.proofs.copy_in.Goals as goal
+use Rattle.ring.proofs.copy_in.Goals.{then-ring-at-via-then-ring-at, then-ring-at-via-else-ring-at+then-ring-src}
 
-pub returns-then-size-at : goal.returns-then-size-at
-returns-then-size-at c = search in_far
+pub returns-then-ring-at : goal.returns-then-ring-at
+returns-then-ring-at c =
+    elim c.then-ring-at.branch [
+      | then-ring-at-via-then-ring-at w ↦ in_far _ _ _ w.if-ring-at.true
+      | then-ring-at-via-else-ring-at+then-ring-src w ↦ in_long _ _ _ w.if-ring-src.true
+    ]
 
-pub returns-then-size-n : goal.returns-then-size-n
-returns-then-size-n c = search in_long
+pub returns-then-src-room : goal.returns-then-src-room
+returns-then-src-room c = in_one _ _ _ c.if-ring-at.false c.if-ring-src.false _ c.if-src-room.true c.copy.ensures
 
-pub returns-then-n-k : goal.returns-then-n-k
-returns-then-n-k c = search in_one
-
-pub returns : goal.returns
-returns c =
-    let r = c.args.ring.now in
-    let xs = c.args.src.now in
-    let k = length r - c.args.at in
-    let z : k - 0 ≡ k = omega arith in
-    in_two _ xs _ c.if-size-at.false c.if-size-n.false _ _ _ _ c.if-n-k.false (ap (λ n. take n xs) z) (take_all (length xs - k) (drop k xs) (omega (arith, length-drop k xs)))
-    c.copy-2.ensures c.copy-3.ensures
+pub returns-else-src-room : goal.returns-else-src-room
+returns-else-src-room c =
+    in_two _ _ _ c.if-ring-at.false c.if-ring-src.false _ _ _ _ c.if-src-room.false c.split_at.ensures.front c.split_at.ensures.back
+    c.copy-else-src-room.ensures c.copy-else-src-room-2.ensures

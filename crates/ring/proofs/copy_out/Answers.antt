@@ -1,35 +1,23 @@
 -- `ring::copy_out` meets its contract. Assumes nothing.
-use mathlib.Core.Path.{◌≡◌, ap}
-use Prim.Native.Nat.{◌+◌, ◌-◌}
 use native.Mathlib.Omega.{arith}
-use lib.ListN.{length, take, drop, length-drop}
-use lib.Seq.{take_all}
 use Rattle.ring.proofs.Calls.{out_far, out_long, out_short, out_one, out_two}
 use Rattle.ring.proofs.copy_out.Goals as goal
+use Rattle.ring.proofs.copy_out.Goals.{then-ring-at-via-then-ring-at, then-ring-at-via-else-ring-at+then-ring-n, then-ring-at-via-else-ring-at+else-ring-n+then-dst-n}
 
-pub returns-then-size-at : goal.returns-then-size-at
-returns-then-size-at c = search out_far
+pub returns-then-ring-at : goal.returns-then-ring-at
+returns-then-ring-at c =
+    elim c.then-ring-at.branch [
+      | then-ring-at-via-then-ring-at w ↦ out_far _ _ _ _ w.if-ring-at.true
+      | then-ring-at-via-else-ring-at+then-ring-n w ↦ out_long _ _ _ _ w.if-ring-n.true
+      | then-ring-at-via-else-ring-at+else-ring-n+then-dst-n w ↦ out_short _ _ _ _ w.if-dst-n.true
+    ]
 
-pub returns-then-size-n : goal.returns-then-size-n
-returns-then-size-n c = search out_long
+pub returns-then-n-back : goal.returns-then-n-back
+returns-then-n-back c =
+    out_one _ _ _ _ c.if-ring-at.false c.if-ring-n.false c.if-dst-n.false _ _ c.split_at.ensures.front c.split_at.ensures.back _ _ c.if-n-back.true
+    c.copy.ensures (omega arith)
 
-pub returns-then-dst-n : goal.returns-then-dst-n
-returns-then-dst-n c = search out_short
-
-pub returns-then-n-k : goal.returns-then-n-k
-returns-then-n-k c =
-    let at = c.args.at in
-    let n = c.args.n in
-    let d = drop at c.args.ring.now in
-    let z : at + n - at ≡ n = omega arith in
-    out_one _ _ _ _ c.if-size-at.false c.if-size-n.false c.if-dst-n.false _ _ c.if-n-k.true (ap (λ k. take k d) z)
-    c.copy.ensures
-
-pub returns : goal.returns
-returns c =
-    let r = c.args.ring.now in
-    let at = c.args.at in
-    let m = c.args.n - (length r - at) in
-    let z : m - 0 ≡ m = omega arith in
-    out_two _ _ _ _ c.if-size-at.false c.if-size-n.false c.if-dst-n.false _ _ _ _ c.if-n-k.false
-    (take_all (length r - at) (drop at r) (omega (arith, length-drop at r))) (ap (λ n. take n r) z) c.copy-2.ensures c.copy-3.ensures
+pub returns-else-n-back : goal.returns-else-n-back
+returns-else-n-back c =
+    out_two _ _ _ _ c.if-ring-at.false c.if-ring-n.false c.if-dst-n.false _ _ c.split_at.ensures.front c.split_at.ensures.back _ _ _ c.if-n-back.false
+    c.copy-else-n-back.ensures c.copy-else-n-back-2.ensures (omega arith)
