@@ -1,28 +1,69 @@
 -- Each promise settles its call: two outcomes that meet it for the same input are equal (01, "Acceptance of the promises"). Assumes nothing.
 use Prim.Native.Nat.{ℕ}
-use mathlib.Core.Path.{◌≡◌}
+use mathlib.Core.Path.{◌≡◌, refl, ap, sym, ◌∙◌}
 use mathlib.Core.List.{List}
+use native.Mathlib.Omega.{arith}
+use Rattle.std.specs.Prelude.{Result, Ok, Err, Option, Some, None}
 use Rattle.laws.specs.Settle.{Settles}
-use Rattle.laws.proofs.Settle.{settled, settled_both}
+use Rattle.laws.proofs.Settle.{settled}
+use Rattle.refusal.specs.declared.Refusal.{Refusal}
+use Rattle.refusal.specs.declared.Refused as refused
+use Rattle.refusal.specs.Refusal.{number_of}
+use Rattle.refusal.proofs.Placed.{refused_apart}
+use Rattle.refusal.proofs.Told.{Tells, settled_told, settled_told_both}
+use Rattle.recording.specs.declared.Entry as entry
+use Rattle.recording.specs.Answers.{Opened, Entry, Grown, opened_in, step_in, grown_in}
 use Rattle.recording.specs.Recording.{opened_for, step_for, packet_for, start_output, started_for, grown_for, output_for}
-use Rattle.recording.specs.declared.Opened.{Opened}
-use Rattle.recording.specs.declared.Step.{Step}
-use Rattle.recording.specs.declared.Grown.{Grown}
+
+-- what an answer says in 01's terms tells it from every other
+
+opened_tells : Tells {A = ℕ} {V = Opened} opened_in
+opened_tells =
+    record { number = λ o. o.number; of_ok = λ n. refl; of_err = λ r. refl; values = λ a b e. ap (λ (o : Opened). o.first) e }
+
+grown_tells : Tells {A = ℕ} {V = Grown} grown_in
+grown_tells =
+    record { number = λ g. g.number; of_ok = λ n. refl; of_err = λ r. refl; values = λ a b e. ap (λ (g : Grown). g.length) e }
+
+clash : {A : Type 0} → ◌≡◌ {A = ℕ} 0 1 → A
+clash z = absurd (omega arith)
+
+entry_of : (s t l m n o : ℕ) → Entry s l n ≡ Entry t m o
+    → ◌≡◌ {A = entry.Entry} (record { start = s; length = l; next = n }) (record { start = t; length = m; next = o })
+entry_of s t l m n o e =
+    let x : s ≡ t = cc in
+    let y : l ≡ m = cc in
+    let z : n ≡ o = cc in
+    cc
+
+step_apart : (a b : Result (Option entry.Entry) refused.Refused) → step_in a ≡ step_in b → a ≡ b
+step_apart (Ok None) (Ok None) e = refl
+step_apart (Ok None) (Ok (Some y)) e = clash cc
+step_apart (Ok None) (Err s) e = clash cc
+step_apart (Ok (Some x)) (Ok None) e = clash cc
+step_apart (Ok (Some x)) (Ok (Some y)) e = ap (λ z. Ok (Some z)) (entry_of x.start y.start x.length y.length x.next y.next e)
+step_apart (Ok (Some x)) (Err s) e = clash cc
+step_apart (Err r) (Ok None) e = clash cc
+step_apart (Err r) (Ok (Some y)) e = clash cc
+step_apart (Err r) (Err s) e =
+    let w : number_of r.why ≡ number_of s.why = cc in
+    let p : r.place ≡ s.place = cc in
+    ap Err (refused_apart r s w p)
 
 -- an input is the file, and for the latter two the offset
-pub opened : Settles (λ (file : List ℕ) (r : Opened). r ≡ opened_for file)
-opened = settled opened_for
+pub opened : Settles (λ (file : List ℕ) (r : Result ℕ Refusal). opened_in r ≡ opened_for file)
+opened = settled_told opened_tells opened_for
 
-pub next : Settles (λ (i : List ℕ × ℕ) (r : Step). r ≡ step_for i.0 i.1)
-next = settled (λ i. step_for i.0 i.1)
+pub next : Settles (λ (i : List ℕ × ℕ) (r : Result (Option entry.Entry) refused.Refused). step_in r ≡ step_for i.0 i.1)
+next i x y p q = step_apart x y (p ∙ sym q)
 
 pub packet : Settles (λ (i : List ℕ × ℕ) (r : List ℕ). r ≡ packet_for i.0 i.1)
 packet = settled (λ i. packet_for i.0 i.1)
 
 -- an input is the output before the call, and for the latter the packet and the offset
-pub start : Settles (λ (out : List ℕ) (o : Grown × List ℕ). (o.0 ≡ started_for out) × (o.1 ≡ start_output out))
-start = settled_both started_for start_output
+pub start : Settles (λ (out : List ℕ) (o : Result ℕ Refusal × List ℕ). (grown_in o.0 ≡ started_for out) × (o.1 ≡ start_output out))
+start = settled_told_both grown_tells started_for start_output
 
-pub append : Settles (λ (i : List ℕ × List ℕ × ℕ) (o : Grown × List ℕ).
-    (o.0 ≡ grown_for i.0 i.1 i.2) × (o.1 ≡ output_for i.0 i.1 i.2))
-append = settled_both (λ i. grown_for i.0 i.1 i.2) (λ i. output_for i.0 i.1 i.2)
+pub append : Settles (λ (i : List ℕ × List ℕ × ℕ) (o : Result ℕ Refusal × List ℕ).
+    (grown_in o.0 ≡ grown_for i.0 i.1 i.2) × (o.1 ≡ output_for i.0 i.1 i.2))
+append = settled_told_both grown_tells (λ i. grown_for i.0 i.1 i.2) (λ i. output_for i.0 i.1 i.2)

@@ -10,8 +10,7 @@ use Rattle.cutting.specs.declared.Sign.TheVariants.{More, Whole, Wrong}
 use Rattle.cutting.proofs.Needs.{step_taken, taken, takes_one}
 use Rattle.moves.specs.Moves.{placed}
 use Rattle.recording.specs.Recording.{step_for, stated_at}
-use Rattle.recording.specs.declared.Step.{Step}
-use Rattle.recording.specs.declared.Step.TheVariants.{Entry, End, Refused}
+use Rattle.recording.specs.Answers.{Step, Entry, End, Refused}
 use Rattle.recording.proofs.Answers.{entry_means}
 use Rattle.walk.specs.declared.Walk.{Walk}
 use Rattle.walk.specs.declared.Fed.{Fed}

@@ -7,9 +7,7 @@ use Rattle.laws.proofs.Written.{written_length}
 use Rattle.moves.specs.Moves.{placed}
 use Rattle.cutting.specs.Gather.{missing}
 use Rattle.recording.specs.Recording.{opened_for, step_for}
-use Rattle.recording.specs.declared.Opened.{Opened}
-use Rattle.recording.specs.declared.Step.{Step}
-use Rattle.recording.specs.declared.Step.TheVariants.{Entry, End, Refused}
+use Rattle.recording.specs.Answers.{Opened, Step, Entry, End, Refused}
 use Rattle.walk.specs.declared.Walk.{Walk}
 use Rattle.walk.specs.declared.Fed.{Fed}
 use Rattle.walk.specs.Entries.{entry_need}

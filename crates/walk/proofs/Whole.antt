@@ -10,8 +10,7 @@ use Rattle.cutting.specs.declared.Sign.{Sign}
 use Rattle.cutting.specs.declared.Sign.TheVariants.{More, Whole, Wrong}
 use Rattle.cutting.proofs.Needs.{lt_or_le, records_good}
 use Rattle.recording.specs.Recording.{step_for, packet_for, packet_in}
-use Rattle.recording.specs.declared.Step.{Step}
-use Rattle.recording.specs.declared.Step.TheVariants.{Entry, Refused}
+use Rattle.recording.specs.Answers.{Step, Entry, Refused}
 use Rattle.recording.proofs.Answers.{step_end, step_past, step_long, step_cut, step_entry}
 use Rattle.walk.specs.Entries.{entry_says}
 use Rattle.walk.specs.Whole.{WalksTo, packets_of, last_of}

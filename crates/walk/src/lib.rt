@@ -9,8 +9,6 @@ ghost use Rattle.recording.specs.Recording.{step_for};
 ghost use Rattle.walk.specs.Entries.{entry_need};
 ghost use Rattle.walk.specs.Walk.{begun_for, met_by, fed_by, taken_for, grown_for, fed_for, work_for, packet_at, ended_for};
 
-use recording::Step;
-
 // `number`: the refusal met, 0 while there is none. `at`: the offset in the file of the entry begun, modulo 2^64. `have`: how many of its
 // bytes stand at the front of the work buffer.
 #[derive(Clone, Copy)]
@@ -41,11 +39,17 @@ pub struct Ended {
 pub fn begin(first: &[u8]) -> Walk
     ensures { result ≡ begun_for first.now }
 {
-    let o = recording::open(first);
-    Walk {
-        number: o.number,
-        at: o.first,
-        have: 0,
+    match recording::open(first) {
+        Ok(at) => Walk {
+            number: 0,
+            at,
+            have: 0,
+        },
+        Err(r) => Walk {
+            number: r.number(),
+            at: 0,
+            have: 0,
+        },
     }
 }
 
@@ -141,21 +145,17 @@ fn judge(at: u64, held: &[u8], taken: usize) -> Fed
     ensures { result ≡ fed_by (step_for held.now 0) at (length held.now) taken }
 {
     match recording::next(held, 0) {
-        Step::Entry {
-            start: _,
-            length,
-            next,
-        } => Fed {
+        Ok(Some(entry)) => Fed {
             walk: Walk {
                 number: 0,
-                at: std::num::wrapping_add_u64(at, next),
+                at: std::num::wrapping_add_u64(at, entry.next),
                 have: 0,
             },
             taken,
             whole: true,
-            size: length as usize,
+            size: entry.length as usize,
         },
-        Step::End => Fed {
+        Ok(None) => Fed {
             walk: Walk {
                 number: 0,
                 at,
@@ -165,9 +165,9 @@ fn judge(at: u64, held: &[u8], taken: usize) -> Fed
             whole: false,
             size: 0,
         },
-        Step::Refused { number, place: _ } => Fed {
+        Err(r) => Fed {
             walk: Walk {
-                number: met(number),
+                number: met(r.why.number()),
                 at,
                 have: held.len(),
             },
