@@ -1,19 +1,18 @@
 -- Each promise settles its call: two outcomes that meet it for the same input are equal (01, "Acceptance of the promises"). Assumes nothing.
 use Prim.Native.Nat.{ℕ}
-use mathlib.Core.Path.{◌≡◌, refl, ap, sym, ◌∙◌}
+use mathlib.Core.Path.{◌≡◌, refl, ap}
 use mathlib.Core.List.{List}
 use native.Mathlib.Omega.{arith}
-use Rattle.std.specs.Prelude.{Result, Ok, Err, Option, Some, None}
+use Rattle.std.specs.Prelude.{Result, Ok, Option, Some, None}
 use Rattle.laws.specs.Settle.{Settles}
 use Rattle.laws.proofs.Settle.{settled}
 use Rattle.refusal.specs.declared.Refusal.{Refusal}
 use Rattle.refusal.specs.declared.Refused as refused
-use Rattle.refusal.specs.Refusal.{number_of}
-use Rattle.refusal.proofs.Placed.{refused_apart}
+use Rattle.refusal.proofs.Placed.{TellsPlace, settled_placed}
 use Rattle.refusal.proofs.Told.{Tells, settled_told, settled_told_both}
 use Rattle.recording.specs.declared.Entry as entry
-use Rattle.recording.specs.Answers.{Opened, Entry, Grown, opened_in, step_in, grown_in}
-use Rattle.recording.specs.Recording.{opened_for, step_for, packet_for, start_output, started_for, grown_for, output_for}
+use Rattle.recording.specs.Answers.{Opened, Step, Entry, Grown, opened_in, step_in, grown_in}
+use Rattle.recording.specs.Recording.{opened_for, step_for, told, packet_for, start_output, started_for, grown_for, output_for}
 
 -- what an answer says in 01's terms tells it from every other
 
@@ -36,26 +35,27 @@ entry_of s t l m n o e =
     let z : n ≡ o = cc in
     cc
 
-step_apart : (a b : Result (Option entry.Entry) refused.Refused) → step_in a ≡ step_in b → a ≡ b
-step_apart (Ok None) (Ok None) e = refl
-step_apart (Ok None) (Ok (Some y)) e = clash cc
-step_apart (Ok None) (Err s) e = clash cc
-step_apart (Ok (Some x)) (Ok None) e = clash cc
-step_apart (Ok (Some x)) (Ok (Some y)) e = ap (λ z. Ok (Some z)) (entry_of x.start y.start x.length y.length x.next y.next e)
-step_apart (Ok (Some x)) (Err s) e = clash cc
-step_apart (Err r) (Ok None) e = clash cc
-step_apart (Err r) (Ok (Some y)) e = clash cc
-step_apart (Err r) (Err s) e =
-    let w : number_of r.why ≡ number_of s.why = cc in
-    let p : r.place ≡ s.place = cc in
-    ap Err (refused_apart r s w p)
+step_tells : TellsPlace {A = Option entry.Entry} {V = Step} step_in
+unfolding told
+step_tells =
+    record { number = λ s. (told s).number; place = λ s. (told s).place; of_ok = of_ok; of_err = λ r. refl; place_of_err = λ r. refl; values = values }
+  where
+    of_ok : (o : Option entry.Entry) → (told (step_in (Ok o))).number ≡ 0
+    of_ok None = refl
+    of_ok (Some x) = refl
+
+    values : (o p : Option entry.Entry) → step_in (Ok o) ≡ step_in (Ok p) → o ≡ p
+    values None None e = refl
+    values None (Some y) e = clash cc
+    values (Some x) None e = clash cc
+    values (Some x) (Some y) e = ap Some (entry_of x.start y.start x.length y.length x.next y.next e)
 
 -- an input is the file, and for the latter two the offset
 pub opened : Settles (λ (file : List ℕ) (r : Result ℕ Refusal). opened_in r ≡ opened_for file)
 opened = settled_told opened_tells opened_for
 
 pub next : Settles (λ (i : List ℕ × ℕ) (r : Result (Option entry.Entry) refused.Refused). step_in r ≡ step_for i.0 i.1)
-next i x y p q = step_apart x y (p ∙ sym q)
+next = settled_placed step_tells (λ i. step_for i.0 i.1)
 
 pub packet : Settles (λ (i : List ℕ × ℕ) (r : List ℕ). r ≡ packet_for i.0 i.1)
 packet = settled (λ i. packet_for i.0 i.1)

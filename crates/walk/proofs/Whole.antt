@@ -6,8 +6,7 @@ use Rattle.laws.specs.Big.{big_of, number_at}
 use Rattle.fields.proofs.Reading.{number_in}
 use Rattle.cutting.specs.Cutting.{Cut, by, cut_from, cut_of, all_of}
 use Rattle.cutting.specs.Records.{Good, AllGood, Begun}
-use Rattle.cutting.specs.declared.Sign.{Sign}
-use Rattle.cutting.specs.declared.Sign.TheVariants.{More, Whole, Wrong}
+use Rattle.cutting.specs.Sign.{Sign, More, Whole, Wrong}
 use Rattle.cutting.proofs.Needs.{lt_or_le, records_good}
 use Rattle.recording.specs.Recording.{step_for, packet_for, packet_in}
 use Rattle.recording.specs.Answers.{Step, Entry, Refused}

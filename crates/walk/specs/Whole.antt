@@ -1,8 +1,7 @@
 -- A recording as a whole: the packets that `recording::next` gives, one call each, and what stands behind the last; and the same by its bytes as
 -- they come in. proofs/Whole.antt has that both are the same (01, "Clock and recordings"). Assumes nothing.
 use Rattle.std.specs.Prelude.{◌≡◌, ℕ, ◌+◌, List, [], ◌∷◌, length, drop}
-use Rattle.cutting.specs.declared.Sign.{Sign}
-use Rattle.cutting.specs.declared.Sign.TheVariants.{More, Whole, Wrong}
+use Rattle.cutting.specs.Sign.{Sign, More, Whole, Wrong}
 use Rattle.recording.specs.Recording.{step_for, packet_for}
 use Rattle.recording.specs.Answers.{Step, Entry, End, Refused}
 
