@@ -77,7 +77,7 @@ fn read_all(
         if count == 0 {
             break;
         }
-        match hand_over(rt, report, work, block.get(..count).unwrap_or(&[])) {
+        match hand_over(rt, report, work, &block[..count]) {
             ControlFlow::Continue(next) => report = next,
             ControlFlow::Break(last) => return Ok(last),
         }
@@ -113,7 +113,7 @@ fn fail(rt: &(impl Eprint + Alloc), name: &str, e: io::Error) {
 fn begin(input: &mut impl Read) -> io::Result<Report> {
     let mut first = [0u8; 1];
     let count = input.read(&mut first)?;
-    Ok(report::begin(first.get(..count).unwrap_or(&[])))
+    Ok(report::begin(&first[..count]))
 }
 
 // A recording read to its end, or as far as it is not refused.
