@@ -32,6 +32,7 @@ pub struct Report {
 
 // `taken`: bytes of the block; the rest is handed over again. `broken` and `line`: bytes of the line of a break and of a packet, 0 where
 // there is none.
+// Kept: lengths, since the lines stand in buffers that the caller lends (no heap, and `feed` has them as parameters in docs/PROMISES.md).
 #[derive(Clone, Copy)]
 pub struct Shown {
     pub report: Report,

@@ -15,6 +15,7 @@ use refusal::{Refusal, Refused};
 
 // `at`: the offset in the file of the entry begun, modulo 2^64. `have`: how many of its bytes stand at the front of the work buffer. Once
 // refused a walk takes no more.
+// Kept: a count beside the work buffer, since that is lent for each call (no heap, and `work_for` speaks of it at its fixed length).
 #[derive(Clone, Copy)]
 pub struct Walk {
     pub refused: Option<Refusal>,
