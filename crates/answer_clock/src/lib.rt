@@ -6,7 +6,6 @@ ghost use Rattle.answer_clock.specs.Values.{stamp_in};
 
 use cases::case;
 use clock::Stamp;
-use recording::Step;
 use saying::Said;
 
 // Bytes that a timestamp takes in a body.
@@ -49,38 +48,31 @@ pub fn stamp_follows(body: &[u8]) -> Said {
 }
 
 pub fn recording_open(s: &[u8]) -> Said {
-    let opened = recording::open(s);
-    saying::begin(opened.number, opened.place)
+    let (number, _) = saying::numbered(recording::open(s));
+    saying::begin(number, 0)
 }
 
 // Whether there is an entry, where its packet starts, its length, and where the next entry begins.
-fn told(step: Step) -> Said {
-    match step {
-        Step::Entry {
-            start,
-            length,
-            next,
-        } => saying::three(saying::one(0, 1), start, length as u64, next),
-        Step::End => saying::three(saying::one(0, 0), 0, 0, 0),
-        Step::Refused { number, place } => {
-            saying::three(saying::value(saying::begin(number, place), 0), 0, 0, 0)
-        }
-    }
-}
-
 pub fn recording_next(body: &[u8], s: &[u8]) -> Said {
-    told(recording::next(s, fields::read64(body, 0)))
+    let (number, place, entry) = saying::placed(recording::next(s, fields::read64(body, 0)));
+    let said = saying::value(saying::begin(number, place), u64::from(entry.is_some()));
+    let e = entry.unwrap_or_default();
+    saying::three(said, e.start, u64::from(e.length), e.next)
 }
 
 pub fn recording_start(dst: &mut [u8]) -> Said {
-    let grown = recording::start(dst);
-    saying::one(grown.number, grown.length)
+    let (number, length) = saying::numbered(recording::start(dst));
+    saying::one(number, length)
 }
 
 // The offset stands at a position of the body, behind the packet.
 pub fn recording_append(body: &[u8], at: usize, packet: &[u8], dst: &mut [u8]) -> Said {
-    let grown = recording::append(packet, dst, fields::read64(body, at));
-    saying::one(grown.number, grown.length)
+    let (number, length) = saying::numbered(recording::append(
+        packet,
+        dst,
+        fields::read64(body, at),
+    ));
+    saying::one(number, length)
 }
 
 pub fn date(body: &[u8]) -> Said {

@@ -1,19 +1,17 @@
--- How many bytes are missing, by the way taken. Assumes nothing.
-use Prim.Native.Nat.{ℕ, ◌-◌, ◌<◌, ◌≤◌}
-use mathlib.Core.Path.{◌≡◌, refl, sym}
+-- How many bytes are missing, as the code counts them. Assumes nothing.
+use Prim.Native.Nat.{ℕ, ◌-◌, ◌<◌, ◌≤◌, min}
+use mathlib.Core.Bool.{Bool, true, false}
+use mathlib.Core.Path.{◌≡◌, refl}
 use native.Mathlib.Omega.{arith}
-use borrow.Author.Tests.{le-ltb, lt-ltb}
+use borrow.Author.Tests.{ltb-true, ltb-false}
+use lib.Dec.{ltb}
+use Rattle.laws.specs.Pick.{pick}
 use Rattle.cutting.specs.Gather.{missing}
 
-module _ (have need room : ℕ) where
-  pub count_none : need < have → (0 ≡ missing have need room) × (0 ≤ room)
-  unfolding missing
-  count_none h = let z : need - have ≡ 0 = omega arith in (rw (le-ltb room (need - have) (omega arith)) (sym z), omega arith)
-
-  pub count_all : room < need - have → (room ≡ missing have need room) × (room ≤ room)
-  unfolding missing
-  count_all h = (rw (lt-ltb room (need - have) h) refl, omega arith)
-
-  pub count_part : need - have ≤ room → (need - have ≡ missing have need room) × (need - have ≤ room)
-  unfolding missing
-  count_part h = (rw (le-ltb room (need - have) h) refl, h)
+pub least_missing : (have need room s r : ℕ) → s ≡ need - have → r ≡ min s room → (r ≡ missing have need room) × (r ≤ room)
+unfolding missing
+least_missing have need room s r e f = go (ltb room (need - have)) refl
+  where
+    go : (b : Bool) → ltb room (need - have) ≡ b → (r ≡ pick b room (need - have)) × (r ≤ room)
+    go true p = let l : room < need - have = ltb-true _ _ p in (omega arith, omega arith)
+    go false p = let l : need - have ≤ room = ltb-false _ _ p in (omega arith, omega arith)

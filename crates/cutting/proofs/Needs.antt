@@ -10,8 +10,7 @@ use lib.Dec.{ltb}
 use lib.ListN.{length, take, drop, length-append, length-take, take-append-drop}
 use Rattle.cutting.specs.Cutting.{waiting, joined, by, cut_from, cut_of, all_of, end_number}
 use Rattle.cutting.specs.Records.{Steady, Good, AllGood, Begun, Real}
-use Rattle.cutting.specs.declared.Sign.{Sign}
-use Rattle.cutting.specs.declared.Sign.TheVariants.{More, Whole, Wrong}
+use Rattle.cutting.specs.Sign.{Sign, More, Whole, Wrong}
 
 pub lt_or_le : (a b : ℕ) → (a < b) ⊎ (b ≤ a)
 lt_or_le a b = go (ltb a b) refl

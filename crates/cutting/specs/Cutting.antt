@@ -1,8 +1,7 @@
 -- A file of records one behind the other, cut as its bytes come in. What kind of records is one function: what the bytes of a record begun
 -- say. Assumes nothing.
 use Rattle.std.specs.Prelude.{ℕ, List, [], ◌∷◌, ◌++◌}
-use Rattle.cutting.specs.declared.Sign.{Sign}
-use Rattle.cutting.specs.declared.Sign.TheVariants.{More, Whole, Wrong}
+use Rattle.cutting.specs.Sign.{Sign, More, Whole, Wrong}
 
 -- the whole records, the bytes behind them, and what they say: more, or refused
 pub record Cut : Type 0 where

@@ -1,3 +1,4 @@
 pub mod Cutting
 pub mod Records
 pub mod Gather
+pub mod Sign

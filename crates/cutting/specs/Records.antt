@@ -1,7 +1,6 @@
 -- Records whole and begun, and how many bytes of one may be taken at once. Only proofs speak of this file: no promise names it. Assumes nothing.
 use Rattle.std.specs.Prelude.{ℕ, ◌<◌, ◌≡◌, List, [], ◌∷◌, ◌++◌, length}
-use Rattle.cutting.specs.declared.Sign.{Sign}
-use Rattle.cutting.specs.declared.Sign.TheVariants.{More, Whole, Wrong}
+use Rattle.cutting.specs.Sign.{Sign, More, Whole, Wrong}
 
 -- while a record is begun, nothing is said below `need` bytes, and there are not so many yet
 pub record Steady (says : List ℕ → Sign) (need : List ℕ → ℕ) : Type 0 where

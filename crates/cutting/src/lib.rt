@@ -6,14 +6,6 @@ ghost use Rattle.std.specs.Prelude.{◌≡◌, ◌≤◌, length, take};
 ghost use Rattle.moves.specs.Moves.{placed};
 ghost use Rattle.cutting.specs.Gather.{missing};
 
-// The record has more bytes to come, it is whole, or it is wrong whatever follows.
-#[derive(Clone, Copy)]
-pub enum Sign {
-    More,
-    Whole,
-    Wrong { number: u32 },
-}
-
 // Puts as many bytes of the block behind the `have` bytes held as are missing to `need`, and answers how many.
 pub fn gather(work: &mut [u8], have: usize, need: usize, block: &[u8]) -> usize
     ensures answer { (result ≡ missing have need (length block.now)) × (result ≤ length block.now) }
@@ -24,15 +16,9 @@ pub fn gather(work: &mut [u8], have: usize, need: usize, block: &[u8]) -> usize
     n
 }
 
+#[tactic(auto, using(crate::proofs::Counts::least_missing))]
 fn count(have: usize, need: usize, room: usize) -> usize
     ensures { (result ≡ missing have need room) × (result ≤ room) }
 {
-    if need < have {
-        return 0;
-    }
-    let n = need - have;
-    if room < n {
-        return room;
-    }
-    n
+    need.saturating_sub(have).min(room)
 }

@@ -10,6 +10,7 @@ use std::env::FillError;
 use std::fs::File;
 use std::io;
 use std::io::Read;
+use std::ops::ControlFlow;
 use std::rt::{Env, Files};
 
 // The longest entry, of which `report` holds the bytes.
@@ -17,133 +18,79 @@ const ENTRY: usize = 65532;
 
 const BLOCK: usize = 65536;
 
-// `at`: bytes of the block taken. `used`: none are left of it, or no more are wanted. `stop`: the recording is refused, or a line could not
-// be written. `failed`: why nothing more could be read.
-#[derive(Clone, Copy)]
-struct Run {
+// Writes the first n bytes.
+fn print(rt: &impl Print, out: &[u8; 1024], n: usize) -> io::Result<()> {
+    rt.write_all(out.get(..n).unwrap_or(&[]))
+}
+
+// One call, and its lines. Gives the bytes taken of the block, and breaks where the recording is refused or a line could not be written.
+fn show(
+    rt: &impl Print,
     report: Report,
-    at: usize,
-    used: bool,
-    stop: bool,
-    failed: Option<io::Error>,
-}
-
-// The bytes from .. to; none where they are not there.
-fn part(s: &[u8], from: usize, to: usize) -> &[u8] {
-    if s.len() < to {
-        return &s[0..0];
-    }
-    if to < from {
-        return &s[0..0];
-    }
-    &s[from..to]
-}
-
-fn print(rt: &impl Print, out: &[u8; 1024], n: usize) -> bool {
-    rt.write_all(part(out, 0, n)).is_ok()
-}
-
-// What a read gave.
-#[derive(Clone, Copy)]
-struct Got {
-    failed: Option<io::Error>,
-    count: usize,
-}
-
-fn read(input: &mut impl Read, block: &mut [u8]) -> Got {
-    match input.read(block) {
-        Ok(count) => Got {
-            failed: None,
-            count,
-        },
-        Err(e) => Got {
-            failed: Some(e),
-            count: 0,
-        },
-    }
-}
-
-// One call, and its lines.
-fn show(rt: &impl Print, run: Run, work: &mut [u8; ENTRY], block: &[u8]) -> Run {
+    work: &mut [u8; ENTRY],
+    block: &[u8],
+) -> ControlFlow<Report, (Report, usize)> {
     let mut broken = [0u8; 1024];
     let mut line = [0u8; 1024];
-    let r = run.report;
-    let s = report::feed(
-        r,
-        work,
-        part(block, run.at, block.len()),
-        &mut broken,
-        &mut line,
-    );
-    print(rt, &broken, s.broken);
-    let is_written = print(rt, &line, s.line);
-    let report = s.report;
-    let walk = report.walk;
-    let stop = !is_written | (walk.number != 0);
-    Run {
-        report,
-        at: std::num::wrapping_add_usize(run.at, s.taken),
-        used: stop | (s.taken == 0),
-        stop,
-        failed: None,
+    let shown = report::feed(report, work, block, &mut broken, &mut line);
+    let _ = print(rt, &broken, shown.broken);
+    let is_written = print(rt, &line, shown.line).is_ok();
+    let report = shown.report;
+    if !is_written || report.walk.refused.is_some() {
+        return ControlFlow::Break(report);
     }
+    ControlFlow::Continue((report, shown.taken))
 }
 
-// Hands a block over until all of it is taken. Each call takes a byte at least, so there are no more calls than bytes, and one to see that
-// none is left.
-fn hand_over(rt: &impl Print, run: Run, work: &mut [u8; ENTRY], block: &[u8]) -> Run {
-    let mut run = run;
-    run.at = 0;
-    run.used = false;
-    let mut turns = block.len();
-    while turns > 0 && !run.used {
-        run = show(rt, run, work, block);
-        turns -= 1;
-    }
-    run
-}
-
-// A block read, and handed over. At the end of the recording there is none.
-fn turn(
+// Hands a block over until all of it is taken. Each call takes a byte at least, so there are no more calls than bytes.
+fn hand_over(
     rt: &impl Print,
-    input: &mut impl Read,
-    run: Run,
+    report: Report,
     work: &mut [u8; ENTRY],
-    block: &mut [u8],
-) -> Run {
-    let got = read(input, block);
-    if got.count == 0 {
-        let mut run = run;
-        run.stop = true;
-        run.failed = got.failed;
-        return run;
+    block: &[u8],
+) -> ControlFlow<Report, Report> {
+    let mut report = report;
+    let mut left = block;
+    for _ in 0..block.len() {
+        let (next, taken) = show(rt, report, work, left)?;
+        report = next;
+        if taken == 0 {
+            break;
+        }
+        left = left.get(taken..).unwrap_or(&[]);
     }
-    hand_over(rt, run, work, part(block, 0, got.count))
+    ControlFlow::Continue(report)
 }
 
-// A proved loop has to end, and nothing says that the input does. So the loop counts its turns down, from a number that no run uses up.
+// Reads blocks and hands them over, up to the end of the recording. A proved loop has to end, and nothing says that the input does: so the loop
+// has a number of turns that no run uses up.
 fn read_all(
     rt: &impl Print,
     input: &mut impl Read,
-    run: Run,
+    report: Report,
     work: &mut [u8; ENTRY],
-    block: &mut [u8],
-) -> Run {
-    let mut run = run;
-    let mut turns = u64::MAX;
-    while turns > 0 && !run.stop {
-        run = turn(rt, input, run, work, block);
-        turns -= 1;
+) -> io::Result<Report> {
+    let mut block = [0u8; BLOCK];
+    let mut report = report;
+    for _ in 0..u64::MAX {
+        let count = input.read(&mut block)?;
+        if count == 0 {
+            break;
+        }
+        match hand_over(rt, report, work, &block[..count]) {
+            ControlFlow::Continue(next) => report = next,
+            ControlFlow::Break(last) => return Ok(last),
+        }
     }
-    run
+    Ok(report)
 }
 
-fn print_end(rt: &impl Print, r: Report) {
+fn print_end(rt: &impl Print, report: Report) {
     let mut summary = [0u8; 1024];
     let mut refusal = [0u8; 1024];
-    let c = report::end(r, &mut summary, &mut refusal);
-    print(rt, &summary, c.summary);
-    print(rt, &refusal, c.refusal);
+    let closed = report::end(report, &mut summary, &mut refusal);
+    let _ = print(rt, &summary, closed.summary);
+    let _ = print(rt, &refusal, closed.refusal);
 }
 
 fn refuse(rt: &impl Eprint, name: &str, reason: &str) {
@@ -163,31 +110,27 @@ fn fail(rt: &(impl Eprint + Alloc), name: &str, e: io::Error) {
 }
 
 // The first byte by itself: the version.
-fn begin(input: &mut impl Read) -> Run {
+fn begin(input: &mut impl Read) -> io::Result<Report> {
     let mut first = [0u8; 1];
-    let got = read(input, &mut first);
-    let report = report::begin(part(&first, 0, got.count));
-    let walk = report.walk;
-    Run {
-        report,
-        at: 0,
-        used: false,
-        stop: walk.number != 0,
-        failed: got.failed,
+    let count = input.read(&mut first)?;
+    Ok(report::begin(&first[..count]))
+}
+
+// A recording read to its end, or as far as it is not refused.
+fn read_through(rt: &impl Print, input: &mut impl Read) -> io::Result<Report> {
+    let mut work = [0u8; ENTRY];
+    let report = begin(input)?;
+    if report.walk.refused.is_some() {
+        return Ok(report);
     }
+    read_all(rt, input, report, &mut work)
 }
 
 fn inspect(rt: &(impl Print + Eprint + Alloc), input: &mut impl Read, name: &str) {
-    let mut work = [0u8; ENTRY];
-    let mut block = [0u8; BLOCK];
-    let run = begin(input);
-    let run = read_all(rt, input, run, &mut work, &mut block);
-    if let Some(e) = run.failed {
-        fail(rt, name, e);
-        return;
+    match read_through(rt, input) {
+        Ok(report) => print_end(rt, report),
+        Err(e) => fail(rt, name, e),
     }
-    let r = run.report;
-    print_end(rt, r);
 }
 
 fn inspect_file(rt: &(impl Print + Eprint + Alloc + Files), path: &[u8]) {

@@ -3,10 +3,14 @@ use Prim.Native.Nat.{ℕ, ◌+◌, ◌-◌, ◌<◌, ◌≤◌}
 use mathlib.Core.Bool.{Bool, true, false}
 use mathlib.Core.Path.{◌≡◌, refl, sym, ap, ◌∙◌}
 use mathlib.Core.List.{List, []}
+use mathlib.Core.Logic.{⊎_elim}
 use native.Mathlib.Omega.{arith}
 use borrow.Author.Tests.{le-ltb, le-leb, lt-ltb, eq-eqb, ne_eqb, eqb-true, eqb-false, ltb-false}
 use lib.Dec.{lit<, eqb}
 use lib.ListN.{length, get_or, take, drop, set, length-append}
+use Rattle.std.specs.Prelude.{Option, Some, None}
+use Rattle.std.specs.List.{slice_get}
+use Rattle.std.proofs.lemmas.Option.{slice_get_cases, slice_get_within, get_or_from_slice_get}
 use Rattle.laws.specs.Big.{bytes_of, number_at}
 use Rattle.laws.specs.Pick.{pick}
 use Rattle.laws.specs.Refuse.{refused_with, refused_at}
@@ -18,11 +22,21 @@ use Rattle.fields.specs.Numbers.{put_at}
 use Rattle.moves.specs.Moves.{placed}
 use Rattle.fields.proofs.Reading.{number_out}
 use Rattle.fields.proofs.Writing.{put_in}
-use Rattle.recording.specs.declared.Step.{Step}
-use Rattle.recording.specs.declared.Step.TheVariants.{Entry, End, Refused}
+use Rattle.recording.specs.Answers.{Step, Entry, End, Refused}
 use Rattle.recording.specs.Recording.{entry_of, open_tests, opened_for, stated_at, behind_at, cut_at, step_tests, step_for, told, told_for, packet_in, packet_for, start_number, started_for, start_output, append_tests, append_number, grown_for, output_for}
 
 -- ---- open
+
+-- what the first byte says of the file
+pub first_none : (file : List ℕ) → slice_get file 0 ≡ None → length file ≡ 0
+first_none file e =
+    ⊎_elim
+    (λ p. let q : ◌≡◌ {A = Option ℕ} (Some p.0) None = sym p.2 ∙ e in let z : ◌≡◌ {A = ℕ} 0 1 = cc in absurd (omega arith))
+    (λ p. omega (arith, p.0))
+    (slice_get_cases file 0).1
+
+pub first_some : (file : List ℕ) (x : ℕ) → slice_get file 0 ≡ Some x → (length file ≡ 0 → ⊥) × (get_or file 0 0 ≡ x)
+first_some file x e = (λ z. let h = slice_get_within file 0 x e in omega arith, get_or_from_slice_get file 0 x 0 e)
 
 module _ (file : List ℕ) where
   pub open_empty : length file ≡ 0 → record { number = 2; place = 0; first = 0 } ≡ opened_for file

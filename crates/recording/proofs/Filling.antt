@@ -12,7 +12,7 @@ use Rattle.laws.specs.Limits.{longest}
 use Rattle.laws.specs.Written.{written}
 use Rattle.laws.proofs.Refuse.{free}
 use Rattle.laws.proofs.Written.{set_written, written_length}
-use Rattle.recording.specs.declared.Grown.{Grown}
+use Rattle.recording.specs.Answers.{Grown}
 use Rattle.recording.specs.Recording.{version, entry_of, entries_of, recording_of, started_for, start_output, append_tests, append_number, grown_for, output_for}
 use Rattle.recording.specs.Walk.{Walks, Short, Holds, filled}
 use Rattle.recording.proofs.Walk.{walked}

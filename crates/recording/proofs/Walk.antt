@@ -9,7 +9,7 @@ use Rattle.laws.specs.Big.{bytes_of, big_of, number_at}
 use Rattle.laws.specs.Limits.{longest}
 use Rattle.laws.proofs.Big.{big_back, bytes_length}
 use Rattle.fields.proofs.Reading.{number_in}
-use Rattle.recording.specs.declared.Step.TheVariants.{Entry}
+use Rattle.recording.specs.Answers.{Entry}
 use Rattle.recording.specs.Recording.{version, entry_of, entries_of, recording_of, opened_for, step_for, packet_in, packet_for}
 use Rattle.recording.specs.Walk.{Walks, Short}
 use Rattle.recording.proofs.Answers.{entry_length, open_done, step_end, step_entry}

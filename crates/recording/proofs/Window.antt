@@ -16,8 +16,7 @@ use Rattle.laws.specs.Big.{big_of, number_at}
 use Rattle.laws.specs.Limits.{longest}
 use Rattle.laws.specs.Pick.{pick}
 use Rattle.fields.proofs.Reading.{number_in}
-use Rattle.recording.specs.declared.Step.{Step}
-use Rattle.recording.specs.declared.Step.TheVariants.{Entry, End, Refused}
+use Rattle.recording.specs.Answers.{Step, Entry, End, Refused}
 use Rattle.recording.specs.Recording.{step_for, packet_in, packet_for}
 use Rattle.recording.proofs.Answers.{step_end, step_past, step_long, step_cut, step_entry, entry_means}
 

@@ -1,3 +1,4 @@
+pub mod Answers
 pub mod Recording
 pub mod Walk
 pub mod Walked

@@ -7,10 +7,7 @@ use Rattle.laws.specs.Pick.{pick}
 use Rattle.laws.specs.Refuse.{Test, test, refused_with, refused_at}
 use Rattle.laws.specs.Said.{Said}
 use Rattle.laws.specs.Written.{written}
-use Rattle.recording.specs.declared.Opened.{Opened}
-use Rattle.recording.specs.declared.Grown.{Grown}
-use Rattle.recording.specs.declared.Step.{Step}
-use Rattle.recording.specs.declared.Step.TheVariants.{Entry, End, Refused}
+use Rattle.recording.specs.Answers.{Opened, Grown, Step, Entry, End, Refused}
 
 -- ---- the file
 

@@ -1,7 +1,7 @@
 -- Walking a recording, and filling a lent buffer with one, call after call (01, "Clock and recordings"). Assumes nothing.
 use Rattle.std.specs.Prelude.{ℕ, ◌+◌, ◌≤◌, ◌≡◌, List, [], ◌∷◌, length, take}
 use Rattle.laws.specs.Limits.{longest}
-use Rattle.recording.specs.declared.Step.TheVariants.{Entry, End}
+use Rattle.recording.specs.Answers.{Entry, End}
 use Rattle.recording.specs.Recording.{recording_of, step_for, packet_for, grown_for, output_for}
 
 -- from this offset on each call gives one of the packets, in order, and the call after the last gives the end

@@ -4,99 +4,73 @@
 
 ghost use Rattle.std.specs.Prelude.{◌≡◌, ◌+◌, ◌≤◌, length};
 ghost use Rattle.laws.specs.Written.{written};
+ghost use Rattle.recording.specs.Answers.{opened_in, step_in, grown_in};
 ghost use Rattle.recording.specs.Recording.{opened_for, step_for, told, told_for, packet_for, started_for, start_output, grown_for, output_for};
 
-// `first` is the offset of the first entry.
-#[derive(Clone, Copy)]
-pub struct Opened {
-    pub number: u32,
-    pub place: u64,
-    pub first: u64,
+use refusal::{Refusal, Refused};
+
+const VERSION: u8 = 1;
+
+// The offset of the first entry.
+const FIRST: u64 = 1;
+
+// The longest packet.
+const LONGEST: usize = 65528;
+
+// An entry: its packet is `length` bytes at `start`, and the next entry begins at `next`.
+#[derive(Clone, Copy, PartialEq, Eq, Default)]
+pub struct Entry {
+    pub start: u64,
+    pub length: u32,
+    pub next: u64,
 }
 
-// What stands at an offset of a recording.
-#[derive(Clone, Copy)]
-pub enum Step {
-    // An entry: its packet is `length` bytes at `start`, and the next entry begins at `next`.
-    Entry { start: u64, length: u32, next: u64 },
-    // No entry: the recording ends here.
-    End,
-    Refused { number: u32, place: u64 },
-}
-
-// `length` is that of the recording after the call: there the next entry goes.
-#[derive(Clone, Copy)]
-pub struct Grown {
-    pub number: u32,
-    pub length: u64,
-}
-
-// Looks at the version byte alone.
-pub fn open(file: &[u8]) -> Opened
-    ensures { result ≡ opened_for file.now }
+// Looks at the version byte alone, and gives the offset of the first entry. The place of a refusal is 0.
+pub fn open(file: &[u8]) -> Result<u64, Refusal>
+    ensures { opened_in result ≡ opened_for file.now }
 {
-    if file.len() == 0 {
-        return Opened {
-            number: 2,
-            place: 0,
-            first: 0,
-        };
+    let Some(&version) = file.first() else {
+        return Err(Refusal::CutOff);
+    };
+    if version != VERSION {
+        return Err(Refusal::BadValue);
     }
-    if file[0] != 1 {
-        return Opened {
-            number: 6,
-            place: 0,
-            first: 0,
-        };
-    }
-    Opened {
-        number: 0,
-        place: 0,
-        first: 1,
-    }
+    Ok(FIRST)
 }
 
-// What stands at the offset. The version byte is not looked at.
-pub fn next(file: &[u8], at: u64) -> Step
-    ensures answer { result ≡ step_for file.now at }
-    ensures values { told result ≡ told_for file.now at }
+// The entry at the offset, none where the recording ends there. The version byte is not looked at.
+pub fn next(file: &[u8], at: u64) -> Result<Option<Entry>, Refused>
+    ensures answer { step_in result ≡ step_for file.now at }
+    ensures values { told (step_in result) ≡ told_for file.now at }
 {
     let end = file.len() as u64;
     if at == end {
-        return Step::End;
+        return Ok(None);
     }
-    if end < at {
-        return Step::Refused {
-            number: 2,
-            place: at,
-        };
-    }
-    if end - at < 4 {
-        return Step::Refused {
-            number: 2,
-            place: at,
-        };
+    let cut_off = Refused {
+        why: Refusal::CutOff,
+        place: at,
+    };
+    if end < at || end - at < 4 {
+        return Err(cut_off);
     }
     let length = fields::read32(file, at as usize);
-    if 65528 < length {
-        return Step::Refused {
-            number: 1,
+    if LONGEST < length as usize {
+        return Err(Refused {
+            why: Refusal::Size,
             place: 0,
-        };
+        });
     }
     let start = at + 4;
-    let wide = length as u64;
-    if end - start < wide {
-        return Step::Refused {
-            number: 2,
-            place: at,
-        };
+    if end - start < u64::from(length) {
+        return Err(cut_off);
     }
-    Step::Entry {
+    let next = start + u64::from(length);
+    Ok(Some(Entry {
         start,
         length,
-        next: start + wide,
-    }
+        next,
+    }))
 }
 
 // The packet of the entry at the offset, as a part of the file: empty where `next` gives no entry.
@@ -104,73 +78,40 @@ pub fn packet<'a>(file: &'a [u8], at: u64) -> &'a [u8]
     ensures { result.now ≡ packet_for file.now at }
 {
     match next(file, at) {
-        Step::Entry {
-            start,
-            length: _,
-            next,
-        } => {
-            let from = start as usize;
-            let to = next as usize;
-            &file[from..to]
-        }
-        Step::End => &file[..0],
-        Step::Refused {
-            number: _,
-            place: _,
-        } => &file[..0],
+        Ok(Some(entry)) => &file[entry.start as usize..entry.next as usize],
+        Ok(None) => &[],
+        Err(_) => &[],
     }
 }
 
-// Begins a recording: the version byte goes to the front of the output.
-pub fn start(out: &mut [u8]) -> Grown
-    ensures answer { result ≡ started_for out.old }
+// Begins a recording: the version byte goes to the front of the output. Gives the length of the recording: there the next entry goes.
+pub fn start(out: &mut [u8]) -> Result<u64, Refusal>
+    ensures answer { grown_in result ≡ started_for out.old }
     ensures memory { out.new ≡ start_output out.old }
 {
-    if out.len() == 0 {
-        return Grown {
-            number: 1,
-            length: 0,
-        };
+    if out.is_empty() {
+        return Err(Refusal::Size);
     }
-    out[0] = 1;
-    Grown {
-        number: 0,
-        length: 1,
-    }
+    out[0] = VERSION;
+    Ok(1)
 }
 
-// Writes the packet's entry at the offset, which is the length of the recording so far.
-pub fn append(packet: &[u8], out: &mut [u8], at: u64) -> Grown
-    ensures answer { result ≡ grown_for packet.now out.old at }
+// Writes the packet's entry at the offset, which is the length of the recording so far, and gives its length after that.
+pub fn append(packet: &[u8], out: &mut [u8], at: u64) -> Result<u64, Refusal>
+    ensures answer { grown_in result ≡ grown_for packet.now out.old at }
     ensures memory { out.new ≡ output_for packet.now out.old at }
 {
     let size = packet.len();
-    if 65528 < size {
-        return Grown {
-            number: 1,
-            length: 0,
-        };
+    if LONGEST < size {
+        return Err(Refusal::Size);
     }
     let need = 4 + size;
     let room = out.len();
-    if room < need {
-        return Grown {
-            number: 1,
-            length: 0,
-        };
-    }
-    let last = (room - need) as u64;
-    if last < at {
-        return Grown {
-            number: 1,
-            length: 0,
-        };
+    if room < need || ((room - need) as u64) < at {
+        return Err(Refusal::Size);
     }
     let from = at as usize;
     fields::write32(out, from, size as u32);
     moves::copy(packet, out, from + 4);
-    Grown {
-        number: 0,
-        length: at + need as u64,
-    }
+    Ok(at + need as u64)
 }

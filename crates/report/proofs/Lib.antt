@@ -1,3 +1,4 @@
 pub mod Prints
 pub mod Ways
 pub mod Settled
+pub mod Apart

@@ -1,6 +1,5 @@
 -- The ways through the code, in its own words. Assumes nothing.
 use Rattle.std.proofs.Common.{◌≡◌, ℕ, Bool, true, false, not, eqb, List, length, sym, refl, ap, ◌∙◌, subst, ap₂, zero-add, eq-eqb, ne_eqb}
-use borrow.Author.Tests.{not-true, not-false}
 use Rattle.laws.specs.Written.{written}
 use Rattle.laws.proofs.Written.{written_none}
 use Rattle.calendar.specs.Dates.{date_of}
@@ -17,21 +16,15 @@ use Rattle.stamp_text.specs.Stamp.{since}
 use Rattle.tally.specs.Tally.{no_tally, counted_for, up}
 use Rattle.tally.specs.declared.Tally.{Tally}
 use Rattle.record.specs.Records.{no_record}
-use Rattle.record.specs.declared.Record.{Record}
 use Rattle.walk.specs.Walk as walks
-use Rattle.walk.specs.declared.Ended.{Ended}
-use Rattle.walk.specs.declared.Fed.{Fed}
-use Rattle.walk.specs.declared.Walk.{Walk}
-use Rattle.report.specs.declared.Seen.{Seen}
-use Rattle.report.specs.declared.Report.{Report}
-use Rattle.report.specs.declared.Shown.{Shown}
-use Rattle.report.specs.declared.Told.{Told}
+use Rattle.walk.specs.State.{Ended, Fed, Walk}
+use Rattle.report.specs.State.{Seen, Report, Shown}
 use Rattle.report.specs.Report.{break_of, line_of, seen_after, no_seen, begun_for, is_whole, answer_in, break_for, line_for, seen_for, shown_for, summary_of, refusal_of, summary_for, refusal_for, closed_for}
 
-pub begin_done : (first : List ℕ) (w : Walk) (t : Tally) (l : Record) → w ≡ walks.begun_for first → t ≡ no_tally → l ≡ no_record
-    → record { walk = w; seen = record { tally = t; any = false; last = l } } ≡ begun_for first
+pub begin_done : (first : List ℕ) (w : Walk) (t : Tally) → w ≡ walks.begun_for first → t ≡ no_tally
+    → record { walk = w; seen = record { tally = t; any = false; last = no_record } } ≡ begun_for first
 unfolding begun_for no_seen
-begin_done first w t l e f g = rw (e, f, g) refl
+begin_done first w t e f = rw (e, f) refl
 
 -- ---- a break
 
@@ -40,13 +33,13 @@ module _ (s : Seen) (a : Answer) where
   unfolding break_of
   break_refused d h = rw (ne_eqb a.number 0 h) (puts_none d 0)
 
-  pub break_first : (d : List ℕ) → a.number ≡ 0 → not s.any ≡ true → Puts d 0 (break_of s a) d 0
+  pub break_first : (d : List ℕ) → a.number ≡ 0 → s.any ≡ false → Puts d 0 (break_of s a) d 0
   unfolding break_of
-  break_first d h l = rw (eq-eqb a.number 0 h, not-true s.any l) (puts_none d 0)
+  break_first d h l = rw (eq-eqb a.number 0 h, l) (puts_none d 0)
 
-  pub break_there : (d e : List ℕ) (n : ℕ) → a.number ≡ 0 → not s.any ≡ false → Puts d 0 (break_text s.last a.content) e n → Puts d 0 (break_of s a) e n
+  pub break_there : (d e : List ℕ) (n : ℕ) → a.number ≡ 0 → s.any ≡ true → Puts d 0 (break_text s.last a.content) e n → Puts d 0 (break_of s a) e n
   unfolding break_of
-  break_there d e n h l p = rw (eq-eqb a.number 0 h, not-false s.any l) p
+  break_there d e n h l p = rw (eq-eqb a.number 0 h, l) p
 
   -- ---- what is seen after
 
@@ -71,11 +64,6 @@ unfolding line_of
 line_dated s at n a d e k q l =
     rw (← q) (subst (λ (x : Date). Puts d 0 (packet_text n at a x) e k) (date_is (since a.content.time) l.date l.dated) l.text)
 
-pub saw_done : (s x : Seen) (at n k b : ℕ) (a : Answer) (p d e f g : List ℕ) → a ≡ read_for p → n ≡ up s.tally.packets → Line n at a d e k
-    → Puts f 0 (break_of s a) g b → x ≡ seen_after s a
-    → (x ≡ seen_after s (read_for p)) × (Puts f 0 (break_of s (read_for p)) g b × Puts d 0 (line_of s at (read_for p)) e k)
-saw_done s x at n k b a p d e f g q u l m y = rw (← q) (y, (m, line_dated s at n a d e k u l))
-
 -- ---- a block
 
 by_fields : (w : Walk) (t : ℕ) (s u : Seen) (b c l m : ℕ) → s ≡ u → b ≡ c → l ≡ m
@@ -92,24 +80,24 @@ module _ (r : Report) (work block : List ℕ) (f : Fed) (is : f ≡ walks.fed_fo
   unfolding answer_in
   answer_is v p q i = sym (ap read_for (i ∙ ap₂ (λ (x : List ℕ) (y : Fed). walks.packet_at x y.size) q is))
 
-  pub feed_on : (v d l : List ℕ) → v ≡ walks.work_for r.walk work block → not f.whole ≡ true
+  pub feed_on : (v d l : List ℕ) → v ≡ walks.work_for r.walk work block → f.whole ≡ false
       → (record { report = record { walk = f.walk; seen = r.seen }; taken = f.taken; broken = 0; line = 0 } ≡ shown_for r work block)
       × ((v ≡ walks.work_for r.walk work block) × ((d ≡ written d 0 (break_for r work block)) × (l ≡ written l 0 (line_for r work block))))
   unfolding shown_for break_for line_for seen_for
   feed_on v d l e h =
-      let w : is_whole r work block ≡ false = whole_is false (not-true f.whole h) in
+      let w : is_whole r work block ≡ false = whole_is false h in
       rw (w, ← is) (refl, (e, (sym (written_none d 0), sym (written_none l 0))))
 
-  pub feed_one : (v p d e l m : List ℕ) (a : Told) → v ≡ walks.work_for r.walk work block → not f.whole ≡ false → p ≡ walks.packet_at v f.size
-      → (a.seen ≡ seen_after r.seen (read_for p)) × (Puts d 0 (break_of r.seen (read_for p)) e a.broken × Puts l 0 (line_of r.seen r.walk.at (read_for p)) m a.line)
-      → (record { report = record { walk = f.walk; seen = a.seen }; taken = f.taken; broken = a.broken; line = a.line } ≡ shown_for r work block)
+  pub feed_one : (v p d e l m : List ℕ) (s : Seen) (i k size : ℕ) → v ≡ walks.work_for r.walk work block → f.whole ≡ true → f.size ≡ size → p ≡ walks.packet_at v size
+      → (s ≡ seen_after r.seen (read_for p)) × (Puts d 0 (break_of r.seen (read_for p)) e i × Puts l 0 (line_of r.seen r.walk.at (read_for p)) m k)
+      → (record { report = record { walk = f.walk; seen = s }; taken = f.taken; broken = i; line = k } ≡ shown_for r work block)
       × ((v ≡ walks.work_for r.walk work block) × ((e ≡ written d 0 (break_for r work block)) × (m ≡ written l 0 (line_for r work block))))
   unfolding shown_for break_for line_for seen_for
-  feed_one v p d e l m a q h i c =
-      let w : is_whole r work block ≡ true = whole_is true (not-false f.whole h) in
-      let n : answer_in r work block ≡ read_for p = answer_is v p q i in
-      let x : a.broken ≡ length (break_of r.seen (read_for p)) = put_length d e _ a.broken c.1.0 in
-      let y : a.line ≡ length (line_of r.seen r.walk.at (read_for p)) = put_length l m _ a.line c.1.1 in
+  feed_one v p d e l m s i k size q h z o c =
+      let w : is_whole r work block ≡ true = whole_is true h in
+      let n : answer_in r work block ≡ read_for p = answer_is v p q (o ∙ ap (walks.packet_at v) (sym z)) in
+      let x : i ≡ length (break_of r.seen (read_for p)) = put_length d e _ i c.1.0 in
+      let y : k ≡ length (line_of r.seen r.walk.at (read_for p)) = put_length l m _ k c.1.1 in
       rw (w, n, ← is) (by_fields f.walk f.taken _ _ _ _ _ _ c.0 x y, (q, (c.1.0.text, c.1.1.text)))
 
 -- ---- the end

@@ -6,20 +6,22 @@ ghost use Rattle.std.specs.Prelude.{◌≡◌, length};
 ghost use Rattle.laws.specs.Written.{written};
 ghost use Rattle.mdi.specs.Reading.{read_for};
 ghost use Rattle.moves.specs.Moves.{Puts};
+ghost use Rattle.walk.specs.State.{walk_in, ended_in};
 ghost use Rattle.walk.specs.Walk.{work_for};
+ghost use Rattle.report.specs.State.{seen_in, report_in, shown_in};
 ghost use Rattle.report.specs.Report.{begun_for, break_of, line_of, seen_after, break_for, line_for, shown_for, refusal_of, summary_for, refusal_for, closed_for};
 
 use mdi::Answer;
 use record::Record;
+use refusal::Refused;
 use tally::Tally;
-use walk::{Ended, Walk};
+use walk::Walk;
 
-// The counts so far, and the last packet that was read, where there is any.
+// The counts so far, and the last packet that was read.
 #[derive(Clone, Copy)]
 pub struct Seen {
     pub tally: Tally,
-    pub any: bool,
-    pub last: Record,
+    pub last: Option<Record>,
 }
 
 #[derive(Clone, Copy)]
@@ -30,6 +32,7 @@ pub struct Report {
 
 // `taken`: bytes of the block; the rest is handed over again. `broken` and `line`: bytes of the line of a break and of a packet, 0 where
 // there is none.
+// Kept: lengths, since the lines stand in buffers that the caller lends (no heap, and `feed` has them as parameters in docs/PROMISES.md).
 #[derive(Clone, Copy)]
 pub struct Shown {
     pub report: Report,
@@ -54,17 +57,15 @@ struct Told {
 
 // Begins with the first byte of the recording, or none where it has none.
 pub fn begin(first: &[u8]) -> Report
-    ensures { result ≡ begun_for first.now }
+    ensures { report_in result ≡ begun_for first.now }
 {
-    let walk = walk::begin(first);
-    let tally = tally::none();
-    let last = record::none();
-    let seen = Seen {
-        tally,
-        any: false,
-        last,
-    };
-    Report { walk, seen }
+    Report {
+        walk: walk::begin(first),
+        seen: Seen {
+            tally: tally::none(),
+            last: None,
+        },
+    }
 }
 
 // Takes bytes from the front of the block, one at least where there is one and nothing was refused. Where they make a packet whole, its
@@ -76,74 +77,69 @@ pub fn feed(
     broken: &mut [u8; 1024],
     line: &mut [u8; 1024],
 ) -> Shown
-    ensures answer { result ≡ shown_for r work.old block.now }
-    ensures held { work.new ≡ work_for r.walk work.old block.now }
-    ensures between { broken.new ≡ written broken.old 0 (break_for r work.old block.now) }
-    ensures text { line.new ≡ written line.old 0 (line_for r work.old block.now) }
+    ensures answer { shown_in result ≡ shown_for (report_in r) work.old block.now }
+    ensures held { work.new ≡ work_for (walk_in r.walk) work.old block.now }
+    ensures between { broken.new ≡ written broken.old 0 (break_for (report_in r) work.old block.now) }
+    ensures text { line.new ≡ written line.old 0 (line_for (report_in r) work.old block.now) }
 {
-    let w = r.walk;
-    let s = r.seen;
-    let f = walk::feed(w, work, block);
-    let walk = f.walk;
-    if !f.whole {
-        let report = Report { walk, seen: s };
-        return Shown {
-            report,
+    let f = walk::feed(r.walk, work, block);
+    match f.packet {
+        None => Shown {
+            report: Report {
+                walk: f.walk,
+                seen: r.seen,
+            },
             taken: f.taken,
             broken: 0,
             line: 0,
-        };
-    }
-    let a = saw(s, w.at, walk::packet(work, f.size), broken, line);
-    let seen = a.seen;
-    let report = Report { walk, seen };
-    Shown {
-        report,
-        taken: f.taken,
-        broken: a.broken,
-        line: a.line,
+        },
+        Some(size) => {
+            let a = saw(r.seen, r.walk.at, walk::packet(work, size), broken, line);
+            Shown {
+                report: Report {
+                    walk: f.walk,
+                    seen: a.seen,
+                },
+                taken: f.taken,
+                broken: a.broken,
+                line: a.line,
+            }
+        }
     }
 }
 
 // No byte comes any more: the summary goes to the front of `summary`, and the line of a refusal to the front of `refusal`.
 pub fn end(r: Report, summary: &mut [u8; 1024], refusal: &mut [u8; 1024]) -> Closed
-    ensures answer { result ≡ closed_for r }
-    ensures text { summary.new ≡ written summary.old 0 (summary_for r) }
-    ensures reason { refusal.new ≡ written refusal.old 0 (refusal_for r) }
+    ensures answer { result ≡ closed_for (report_in r) }
+    ensures text { summary.new ≡ written summary.old 0 (summary_for (report_in r)) }
+    ensures reason { refusal.new ≡ written refusal.old 0 (refusal_for (report_in r)) }
 {
-    let w = r.walk;
-    let s = r.seen;
-    let t = s.tally;
-    let n = summary_text::summary(t, summary);
-    let k = put_refusal(walk::end(w), refusal);
     Closed {
-        summary: n,
-        refusal: k,
+        summary: summary_text::summary(r.seen.tally, summary),
+        refusal: put_refusal(walk::end(r.walk), refusal),
     }
 }
 
-fn put_refusal(e: Ended, out: &mut [u8; 1024]) -> usize
-    ensures { Puts out.old 0 (refusal_of e) out.new result }
+fn put_refusal(ended: Result<(), Refused>, out: &mut [u8; 1024]) -> usize
+    ensures { Puts out.old 0 (refusal_of (ended_in ended)) out.new result }
 {
-    if e.number == 0 {
-        return 0;
+    match ended {
+        Ok(()) => 0,
+        Err(refused) => inspect_text::refusal(refused.why.number(), refused.place, out),
     }
-    inspect_text::refusal(e.number, e.place, out)
 }
 
 // One packet more, whose entry stands at an offset of the file.
 fn saw(s: Seen, at: u64, packet: &[u8], broken: &mut [u8; 1024], line: &mut [u8; 1024]) -> Told
-    ensures after { result.seen ≡ seen_after s (read_for packet.now) }
-    ensures between { Puts broken.old 0 (break_of s (read_for packet.now)) broken.new result.broken }
-    ensures text { Puts line.old 0 (line_of s at (read_for packet.now)) line.new result.line }
+    ensures after { seen_in result.seen ≡ seen_after (seen_in s) (read_for packet.now) }
+    ensures between { Puts broken.old 0 (break_of (seen_in s) (read_for packet.now)) broken.new result.broken }
+    ensures text { Puts line.old 0 (line_of (seen_in s) at (read_for packet.now)) line.new result.line }
 {
     let a = mdi::read(packet);
-    let t = s.tally;
-    let n = inspect_text::line(std::num::wrapping_add_u64(t.packets, 1), at, a, line);
+    let n = inspect_text::line(s.tally.packets.wrapping_add(1), at, a, line);
     let b = put_break(s, a, broken);
-    let seen = after(s, a, b);
     Told {
-        seen,
+        seen: after(s, a, b),
         broken: b,
         line: n,
     }
@@ -151,38 +147,27 @@ fn saw(s: Seen, at: u64, packet: &[u8], broken: &mut [u8; 1024], line: &mut [u8;
 
 // The line of a break before this packet, where it was read and one was before.
 fn put_break(s: Seen, a: Answer, out: &mut [u8; 1024]) -> usize
-    ensures { Puts out.old 0 (break_of s a) out.new result }
+    ensures { Puts out.old 0 (break_of (seen_in s) a) out.new result }
 {
     if a.number != 0 {
         return 0;
     }
-    if !s.any {
-        return 0;
+    match s.last {
+        None => 0,
+        Some(last) => inspect_text::broken(last, a.content, out),
     }
-    let last = s.last;
-    let c = a.content;
-    inspect_text::broken(last, c, out)
 }
 
 // n is the length of the line of a break.
 fn after(s: Seen, a: Answer, n: usize) -> Seen
-    requires { n ≡ length (break_of s a) }
-    ensures { result ≡ seen_after s a }
+    requires { n ≡ length (break_of (seen_in s) a) }
+    ensures { seen_in result ≡ seen_after (seen_in s) a }
 {
-    let t = s.tally;
-    let tally = tally::count(t, a, n != 0);
-    if a.number != 0 {
-        let was = s.last;
-        return Seen {
-            tally,
-            any: s.any,
-            last: was,
-        };
-    }
-    let last = a.content;
-    Seen {
-        tally,
-        any: true,
-        last,
-    }
+    let tally = tally::count(s.tally, a, n != 0);
+    let last = if a.number == 0 {
+        Some(a.content)
+    } else {
+        s.last
+    };
+    Seen { tally, last }
 }

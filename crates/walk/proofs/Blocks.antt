@@ -6,15 +6,13 @@ use lib.Seq.{drop-length}
 use Rattle.laws.specs.Big.{number_at}
 use Rattle.laws.specs.Pick.{pick}
 use Rattle.cutting.specs.Cutting.{Cut, waiting, joined, by, feed, all_of}
-use Rattle.cutting.specs.declared.Sign.TheVariants.{More, Whole, Wrong}
+use Rattle.cutting.specs.Sign.{More, Whole, Wrong}
 use Rattle.cutting.proofs.Needs.{step_taken, taken, takes_one}
 use Rattle.moves.specs.Moves.{placed}
 use Rattle.recording.specs.Recording.{step_for, stated_at}
-use Rattle.recording.specs.declared.Step.{Step}
-use Rattle.recording.specs.declared.Step.TheVariants.{Entry, End, Refused}
+use Rattle.recording.specs.Answers.{Step, Entry, End, Refused}
 use Rattle.recording.proofs.Answers.{entry_means}
-use Rattle.walk.specs.declared.Walk.{Walk}
-use Rattle.walk.specs.declared.Fed.{Fed}
+use Rattle.walk.specs.State.{Walk, Fed}
 use Rattle.walk.specs.Entries.{sign_of, entry_says, entry_need}
 use Rattle.walk.specs.Walk.{held_of, taken_for, grown_for, met_by, fed_by, fed_for, work_for, packet_at}
 use Rattle.walk.proofs.Entries.{says_short, begun_ways, need_short, need_rest, need_most, number_front, entry_steady, entry_real}

@@ -1,5 +1,5 @@
 -- What the calls answer and leave, by the way taken. Assumes nothing.
-use Rattle.std.proofs.Common.{◌≡◌, ℕ, ◌+◌, ◌-◌, ◌%◌, ◌^◌, ◌<◌, ◌≤◌, min, Bool, true, false, ltb, List, [], ◌++◌, length, take, drop, sym, refl, ap, ◌∙◌, ap₂, append_assoc, arith, lit≤, length-append, length-take-le, take_all, take_at, ltb-false, ltb-true, le-ltb, lt-ltb, eq-eqb, ne_eqb, le-leb}
+use Rattle.std.proofs.Common.{◌≡◌, Option, Some, None, ⊎_elim, ℕ, ◌+◌, ◌-◌, ◌%◌, ◌^◌, ◌<◌, ◌≤◌, min, Bool, true, false, ltb, List, [], ◌++◌, length, take, drop, sym, refl, ap, ◌∙◌, ap₂, append_assoc, arith, lit≤, length-append, length-take-le, take_all, take_at, ltb-false, ltb-true, le-ltb, lt-ltb, eq-eqb, ne_eqb, le-leb}
 use Rattle.laws.specs.Big.{number_at}
 use Rattle.laws.specs.Pick.{pick}
 use Rattle.laws.specs.Written.{written}
@@ -7,11 +7,14 @@ use Rattle.laws.proofs.Written.{written_length}
 use Rattle.moves.specs.Moves.{placed}
 use Rattle.cutting.specs.Gather.{missing}
 use Rattle.recording.specs.Recording.{opened_for, step_for}
-use Rattle.recording.specs.declared.Opened.{Opened}
-use Rattle.recording.specs.declared.Step.{Step}
-use Rattle.recording.specs.declared.Step.TheVariants.{Entry, End, Refused}
-use Rattle.walk.specs.declared.Walk.{Walk}
-use Rattle.walk.specs.declared.Fed.{Fed}
+use Rattle.recording.specs.Answers.{Opened, Step, Entry, End, Refused}
+use Rattle.refusal.specs.declared.Refusal.{Refusal}
+use Rattle.refusal.specs.declared.Refusal.TheVariants.{CutOff}
+use Rattle.refusal.specs.Refusal.{number_of}
+use Rattle.refusal.proofs.Numbers.{number_ne0, number_inj}
+use Rattle.cutting.proofs.Needs.{lt_or_le}
+use Rattle.walk.specs.declared.Walk as walk
+use Rattle.walk.specs.State.{Walk, Fed, met_in, walk_in}
 use Rattle.walk.specs.Entries.{entry_need}
 use Rattle.walk.specs.Walk.{begun_for, held_of, taken_for, grown_for, met_by, fed_by, fed_for, work_for, packet_at, ended_for}
 use Rattle.walk.proofs.Entries.{need_short, need_rest, need_long, need_most}
@@ -22,47 +25,48 @@ begin_done first o e = rw e refl
 
 -- ---- end
 
-module _ (w : Walk) where
-  pub end_refused : (w.number ≡ 0 → ⊥) → record { number = w.number; place = 0 } ≡ ended_for w
+module _ (w : walk.Walk) where
+  pub end_refused : (r : Refusal) → w.refused ≡ Some r → record { number = number_of r; place = 0 } ≡ ended_for (walk_in w)
   unfolding ended_for
-  end_refused h = simp (ne_eqb _ _ h)
+  end_refused r h = rw h (simp (ne_eqb _ _ (number_ne0 r)))
 
-  pub end_cut : w.number ≡ 0 → (w.have ≡ 0 → ⊥) → record { number = 2; place = w.at } ≡ ended_for w
+  pub end_cut : w.refused ≡ None → (w.have ≡ 0 → ⊥) → record { number = 2; place = w.at } ≡ ended_for (walk_in w)
   unfolding ended_for
-  end_cut h l = simp (eq-eqb _ _ h, ne_eqb _ _ l)
+  end_cut h l = rw h (simp (ne_eqb _ _ l))
 
-  pub end_well : w.number ≡ 0 → w.have ≡ 0 → record { number = 0; place = 0 } ≡ ended_for w
+  pub end_well : w.refused ≡ None → w.have ≡ 0 → record { number = 0; place = 0 } ≡ ended_for (walk_in w)
   unfolding ended_for
-  end_well h l = simp (eq-eqb _ _ h, eq-eqb _ _ l)
+  end_well h l = rw h (simp (eq-eqb _ _ l))
 
 -- ---- met, wanted, packet
 
-pub met_two : (n : ℕ) → n ≡ 2 → 0 ≡ met_by n
+pub met_cut_off : 0 ≡ met_by 2
 unfolding met_by
-met_two n h = simp (eq-eqb _ _ h)
+met_cut_off = refl
 
-pub met_other : (n : ℕ) → (n ≡ 2 → ⊥) → n ≡ met_by n
+pub met_other : (r : Refusal) → (r ≡ CutOff → ⊥) → number_of r ≡ met_by (number_of r)
 unfolding met_by
-met_other n h = simp (ne_eqb _ _ h)
+met_other r h = simp (ne_eqb (number_of r) 2 (λ e. h (number_inj r CutOff e)))
+
+-- a refusal met is not 0
+pub met_ne0 : (o : Option Refusal) (r : Refusal) → o ≡ Some r → met_in o ≡ 0 → ⊥
+met_ne0 o r h e = number_ne0 r (sym (ap met_in h) ∙ e)
 
 module _ (h : List ℕ) where
   pub wanted_4 : length h < 4 → (4 ≡ entry_need h) × (4 ≤ 65532)
   wanted_4 l = (sym (need_short h l), lit≤ tt)
 
-  pub wanted_all : (n : ℕ) → n ≡ number_at 4 h 0 → 4 ≤ length h → 65528 < n → (65532 ≡ entry_need h) × (65532 ≤ 65532)
-  wanted_all n e l m = (sym (need_long h n e l m), lit≤ tt)
-
-  pub wanted_rest : (n : ℕ) → n ≡ number_at 4 h 0 → 4 ≤ length h → n ≤ 65528 → (4 + n ≡ entry_need h) × (4 + n ≤ 65532)
-  wanted_rest n e l m = (sym (need_rest h n e l m), omega arith)
+  pub wanted_rest : (n m : ℕ) → n ≡ number_at 4 h 0 → 4 ≤ length h → m ≡ min n 65528 → (4 + m ≡ entry_need h) × (4 + m ≤ 65532)
+  wanted_rest n m e l f =
+      ⊎_elim
+      (λ k. let q = need_long h n e l k in (omega (arith, q), omega arith))
+      (λ k. let q = need_rest h n e l k in (omega (arith, q), omega arith))
+      (lt_or_le 65528 n)
 
 module _ (work : List ℕ) (size : ℕ) where
-  pub packet_short : length work < 4 → [] ≡ packet_at work size
+  pub packet_none : length work < 4 + size → [] ≡ packet_at work size
   unfolding packet_at
-  packet_short h = simp (lt-ltb (length work) (4 + size) (omega arith))
-
-  pub packet_past : 4 ≤ length work → length work - 4 < size → [] ≡ packet_at work size
-  unfolding packet_at
-  packet_past l h = simp (lt-ltb (length work) (4 + size) (omega arith))
+  packet_none h = simp (lt-ltb (length work) (4 + size) h)
 
   pub packet_done : 4 ≤ length work → size ≤ length work - 4 → take (4 + size - 4) (drop 4 work) ≡ packet_at work size
   unfolding packet_at

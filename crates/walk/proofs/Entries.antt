@@ -5,11 +5,10 @@ use lib.Seq.{take-append-le, drop-append-le}
 use Rattle.laws.specs.Big.{big_of, number_at}
 use Rattle.fields.proofs.Reading.{number_in}
 use Rattle.cutting.specs.Records.{Steady, Real}
-use Rattle.cutting.specs.declared.Sign.{Sign}
-use Rattle.cutting.specs.declared.Sign.TheVariants.{More, Whole, Wrong}
+use Rattle.cutting.specs.Sign.{Sign, More, Whole, Wrong}
 use Rattle.cutting.proofs.Needs.{lt_or_le}
 use Rattle.recording.specs.Recording.{step_for, stated_at}
-use Rattle.recording.specs.declared.Step.TheVariants.{Entry}
+use Rattle.recording.specs.Answers.{Entry}
 use Rattle.recording.proofs.Answers.{step_end, step_past, step_long, step_cut, step_entry}
 use Rattle.walk.specs.Entries.{sign_of, entry_says, entry_need}
 

@@ -6,12 +6,10 @@ use Rattle.laws.specs.Big.{big_of, number_at}
 use Rattle.fields.proofs.Reading.{number_in}
 use Rattle.cutting.specs.Cutting.{Cut, by, cut_from, cut_of, all_of}
 use Rattle.cutting.specs.Records.{Good, AllGood, Begun}
-use Rattle.cutting.specs.declared.Sign.{Sign}
-use Rattle.cutting.specs.declared.Sign.TheVariants.{More, Whole, Wrong}
+use Rattle.cutting.specs.Sign.{Sign, More, Whole, Wrong}
 use Rattle.cutting.proofs.Needs.{lt_or_le, records_good}
 use Rattle.recording.specs.Recording.{step_for, packet_for, packet_in}
-use Rattle.recording.specs.declared.Step.{Step}
-use Rattle.recording.specs.declared.Step.TheVariants.{Entry, Refused}
+use Rattle.recording.specs.Answers.{Step, Entry, Refused}
 use Rattle.recording.proofs.Answers.{step_end, step_past, step_long, step_cut, step_entry}
 use Rattle.walk.specs.Entries.{entry_says}
 use Rattle.walk.specs.Whole.{WalksTo, packets_of, last_of}

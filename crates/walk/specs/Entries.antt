@@ -2,11 +2,9 @@
 use Rattle.std.specs.Prelude.{ℕ, ◌+◌, min, List, length, ◌==◌, nat_lt}
 use Rattle.laws.specs.Limits.{longest}
 use Rattle.laws.specs.Pick.{pick}
-use Rattle.cutting.specs.declared.Sign.{Sign}
-use Rattle.cutting.specs.declared.Sign.TheVariants.{More, Whole, Wrong}
+use Rattle.cutting.specs.Sign.{Sign, More, Whole, Wrong}
 use Rattle.recording.specs.Recording.{step_for, stated_at}
-use Rattle.recording.specs.declared.Step.{Step}
-use Rattle.recording.specs.declared.Step.TheVariants.{Entry, End, Refused}
+use Rattle.recording.specs.Answers.{Step, Entry, End, Refused}
 
 -- an entry that is there is whole; one that the end cuts (2) may have more to come; any other refusal stands whatever comes
 unfoldable pub sign_of : Step → Sign

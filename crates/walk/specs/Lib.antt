@@ -1,3 +1,4 @@
 pub mod Entries
+pub mod State
 pub mod Walk
 pub mod Whole

@@ -1,11 +1,9 @@
 -- A recording as a whole: the packets that `recording::next` gives, one call each, and what stands behind the last; and the same by its bytes as
 -- they come in. proofs/Whole.antt has that both are the same (01, "Clock and recordings"). Assumes nothing.
 use Rattle.std.specs.Prelude.{◌≡◌, ℕ, ◌+◌, List, [], ◌∷◌, length, drop}
-use Rattle.cutting.specs.declared.Sign.{Sign}
-use Rattle.cutting.specs.declared.Sign.TheVariants.{More, Whole, Wrong}
+use Rattle.cutting.specs.Sign.{Sign, More, Whole, Wrong}
 use Rattle.recording.specs.Recording.{step_for, packet_for}
-use Rattle.recording.specs.declared.Step.{Step}
-use Rattle.recording.specs.declared.Step.TheVariants.{Entry, End, Refused}
+use Rattle.recording.specs.Answers.{Step, Entry, End, Refused}
 
 -- from this offset on each call gives one of the packets, in order, and the call after the last gives this
 abbrev pub WalksTo : List ℕ → ℕ → List (List ℕ) → Step → Type 0

@@ -6,183 +6,158 @@
 ghost use Rattle.std.specs.Prelude.{◌≡◌, ◌≤◌, min, length};
 ghost use Rattle.moves.specs.Moves.{placed};
 ghost use Rattle.recording.specs.Recording.{step_for};
+ghost use Rattle.refusal.specs.Refusal.{number_of};
 ghost use Rattle.walk.specs.Entries.{entry_need};
+ghost use Rattle.walk.specs.State.{walk_in, fed_in, met_in, ended_in};
 ghost use Rattle.walk.specs.Walk.{begun_for, met_by, fed_by, taken_for, grown_for, fed_for, work_for, packet_at, ended_for};
 
-use recording::Step;
+use refusal::{Refusal, Refused};
 
-// `number`: the refusal met, 0 while there is none. `at`: the offset in the file of the entry begun, modulo 2^64. `have`: how many of its
-// bytes stand at the front of the work buffer.
+// `at`: the offset in the file of the entry begun, modulo 2^64. `have`: how many of its bytes stand at the front of the work buffer. Once
+// refused a walk takes no more.
+// Kept: a count beside the work buffer, since that is lent for each call (no heap, and `work_for` speaks of it at its fixed length).
 #[derive(Clone, Copy)]
 pub struct Walk {
-    pub number: u32,
+    pub refused: Option<Refusal>,
     pub at: u64,
     pub have: usize,
 }
 
-// `taken`: bytes of the block; the rest is handed over again. Where `whole`, an entry is complete, and its packet is the `size` bytes at
+// `taken`: bytes of the block; the rest is handed over again. `packet`: where an entry is complete, the size of its packet, which begins at
 // index 4 of the work buffer.
 #[derive(Clone, Copy)]
 pub struct Fed {
     pub walk: Walk,
     pub taken: usize,
-    pub whole: bool,
-    pub size: usize,
-}
-
-// The end of the walk: the number and place of a refusal, or 0.
-#[derive(Clone, Copy)]
-pub struct Ended {
-    pub number: u32,
-    pub place: u64,
+    pub packet: Option<usize>,
 }
 
 // Begins with the first byte of the file, or none where it has none.
 pub fn begin(first: &[u8]) -> Walk
-    ensures { result ≡ begun_for first.now }
+    ensures { walk_in result ≡ begun_for first.now }
 {
-    let o = recording::open(first);
-    Walk {
-        number: o.number,
-        at: o.first,
-        have: 0,
+    match recording::open(first) {
+        Ok(at) => Walk {
+            refused: None,
+            at,
+            have: 0,
+        },
+        Err(why) => Walk {
+            refused: Some(why),
+            at: 0,
+            have: 0,
+        },
     }
 }
 
 // Takes the bytes of the block that are missing to the next thing to know: an entry's length, or its end.
 pub fn feed(w: Walk, work: &mut [u8; 65532], block: &[u8]) -> Fed
-    ensures answer { result ≡ fed_for w work.old block.now }
-    ensures held { work.new ≡ work_for w work.old block.now }
+    ensures answer { fed_in result ≡ fed_for (walk_in w) work.old block.now }
+    ensures held { work.new ≡ work_for (walk_in w) work.old block.now }
 {
-    if w.number != 0 {
-        return Fed {
+    match w.refused {
+        Some(_) => Fed {
             walk: w,
             taken: 0,
-            whole: false,
-            size: 0,
-        };
+            packet: None,
+        },
+        None => take_in(w, work, block),
     }
-    take_in(w, work, block)
 }
 
 // The packet of a whole entry; none where the buffer has not so many bytes.
 pub fn packet(work: &[u8], size: usize) -> &[u8]
     ensures { result.now ≡ packet_at work.now size }
 {
-    if work.len() < 4 {
-        return &work[..0];
-    }
-    if work.len() - 4 < size {
-        return &work[..0];
+    if work.len() < 4 || work.len() - 4 < size {
+        return &[];
     }
     &work[4..4 + size]
 }
 
 // No byte comes any more: bytes held are an entry that the end cuts.
-pub fn end(w: Walk) -> Ended
-    ensures { result ≡ ended_for w }
+#[tactic(auto, using(crate::proofs::Calls::end_refused, crate::proofs::Calls::end_cut, crate::proofs::Calls::end_well))]
+pub fn end(w: Walk) -> Result<(), Refused>
+    ensures { ended_in result ≡ ended_for (walk_in w) }
 {
-    if w.number != 0 {
-        return Ended {
-            number: w.number,
-            place: 0,
-        };
+    if let Some(why) = w.refused {
+        return Err(Refused { why, place: 0 });
     }
     if w.have != 0 {
-        return Ended {
-            number: 2,
+        return Err(Refused {
+            why: Refusal::CutOff,
             place: w.at,
-        };
+        });
     }
-    Ended {
-        number: 0,
-        place: 0,
-    }
+    Ok(())
 }
 
 fn take_in(w: Walk, work: &mut [u8], block: &[u8]) -> Fed
     requires { length work.old ≡ 65532 }
-    ensures answer { result ≡ fed_by (step_for (grown_for w work.old block.now) 0) w.at (length (grown_for w work.old block.now)) (length (taken_for w work.old block.now)) }
-    ensures held { work.new ≡ placed work.old (min w.have 65532) (taken_for w work.old block.now) }
+    ensures answer { fed_in result ≡ fed_by (step_for (grown_for (walk_in w) work.old block.now) 0) w.at (length (grown_for (walk_in w) work.old block.now)) (length (taken_for (walk_in w) work.old block.now)) }
+    ensures held { work.new ≡ placed work.old (min w.have 65532) (taken_for (walk_in w) work.old block.now) }
 {
-    let have = within(w.have);
+    let have = w.have.min(65532);
     let need = wanted(&work[..have]);
     let n = cutting::gather(work, have, need, block);
     let end = have + n;
     judge(w.at, &work[..end], n)
 }
 
-// No more than the work buffer holds.
-fn within(n: usize) -> usize
-    ensures { (result ≡ min n 65532) × (result ≤ 65532) }
-{
-    if 65532 < n {
-        return 65532;
-    }
-    n
-}
-
 // How many bytes an entry has to have before more can be said of it.
+#[tactic(auto, using(crate::proofs::Calls::wanted_4, crate::proofs::Calls::wanted_rest))]
 fn wanted(held: &[u8]) -> usize
     ensures { (result ≡ entry_need held.now) × (result ≤ 65532) }
 {
     if held.len() < 4 {
         return 4;
     }
-    let length = fields::read32(held, 0);
-    if 65528 < length {
-        return 65532;
-    }
-    4 + length as usize
+    let length = fields::read32(held, 0) as usize;
+    4 + length.min(65528)
 }
 
-// By what stands at the front of the bytes held, as if they were all: 2 means that more are to come.
+// By what stands at the front of the bytes held, as if they were all: an entry that they cut has more to come.
 fn judge(at: u64, held: &[u8], taken: usize) -> Fed
-    ensures { result ≡ fed_by (step_for held.now 0) at (length held.now) taken }
+    ensures { fed_in result ≡ fed_by (step_for held.now 0) at (length held.now) taken }
 {
+    let have = held.len();
     match recording::next(held, 0) {
-        Step::Entry {
-            start: _,
-            length,
-            next,
-        } => Fed {
+        Ok(Some(entry)) => Fed {
             walk: Walk {
-                number: 0,
-                at: std::num::wrapping_add_u64(at, next),
+                refused: None,
+                at: at.wrapping_add(entry.next),
                 have: 0,
             },
             taken,
-            whole: true,
-            size: length as usize,
+            packet: Some(entry.length as usize),
         },
-        Step::End => Fed {
+        Ok(None) => Fed {
             walk: Walk {
-                number: 0,
+                refused: None,
                 at,
-                have: held.len(),
+                have,
             },
             taken,
-            whole: false,
-            size: 0,
+            packet: None,
         },
-        Step::Refused { number, place: _ } => Fed {
+        Err(refused) => Fed {
             walk: Walk {
-                number: met(number),
+                refused: met(refused.why),
                 at,
-                have: held.len(),
+                have,
             },
             taken,
-            whole: false,
-            size: 0,
+            packet: None,
         },
     }
 }
 
-fn met(number: u32) -> u32
-    ensures { result ≡ met_by number }
+#[tactic(auto, using(crate::proofs::Calls::met_cut_off, crate::proofs::Calls::met_other))]
+fn met(why: Refusal) -> Option<Refusal>
+    ensures { met_in result ≡ met_by (number_of why) }
 {
-    if number == 2 {
-        return 0;
+    match why {
+        Refusal::CutOff => None,
+        other => Some(other),
     }
-    number
 }

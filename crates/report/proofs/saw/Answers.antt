@@ -1,9 +1,7 @@
 -- `report::saw` meets its contract. Assumes nothing.
-use Rattle.report.proofs.Ways.{put_length, saw_done}
+use Rattle.std.proofs.Common.{refl}
+use Rattle.report.proofs.Ways.{line_dated}
 use Rattle.report.proofs.saw.Goals as goal
 
-pub after-seen-requires : goal.after-seen-requires
-after-seen-requires c = search put_length
-
-pub returns : goal.returns
-returns c = let both = saw_done _ _ _ _ _ _ _ _ _ _ _ _ c.read-a.ensures c.wrapping_add_u64.ensures.value c.line-n.ensures c.put_break-b.ensures c.after-seen.ensures in record { after = both.0; between = both.1.0; text = both.1.1 }
+pub returns-clause-text : goal.returns-clause-text
+returns-clause-text c = rw (← c.read-a.ensures) (line_dated _ _ _ _ _ _ _ refl c.line-n.ensures)

@@ -2,5 +2,8 @@
 use Rattle.walk.proofs.Calls.{begin_done}
 use Rattle.walk.proofs.begin.Goals as goal
 
-pub returns : goal.returns
-returns c = begin_done _ _ c.open-o.ensures
+pub returns-in-Ok : goal.returns-in-Ok
+returns-in-Ok c = begin_done _ _ c.in-Ok.ensures
+
+pub returns-in-Err : goal.returns-in-Err
+returns-in-Err c = begin_done _ _ c.in-Err.ensures
