@@ -1,6 +1,6 @@
 -- The twelve marked examples of 01, in its order: what a call gives, in numbers, and what 01 says it gives. Assumes nothing.
 use Rattle.std.specs.Prelude.{ℕ, ◌-◌, ◌≡◌, List, [], ◌∷◌, replicate}
-use Rattle.clock.specs.declared.Stamped.{Stamped}
+use Rattle.clock.specs.Answers.{Stamped}
 use Rattle.clock.specs.declared.Stamp.{Stamp}
 use Rattle.clock.specs.Next.{next_for}
 use Rattle.clock.specs.Stamps as stamps

@@ -28,23 +28,23 @@ pub fn with_stamp(said: Said, t: Stamp) -> Said {
 }
 
 pub fn stamp_write(body: &[u8], dst: &mut [u8]) -> Said {
-    let done = clock::encode(stamp_at(body, 0), dst);
-    saying::one(done.number, done.length as u64)
+    let (number, length) = saying::numbered(clock::encode(stamp_at(body, 0), dst));
+    saying::one(number, length as u64)
 }
 
 pub fn stamp_read(s: &[u8]) -> Said {
-    let given = clock::decode(s);
-    with_stamp(saying::begin(given.number, 0), given.stamp)
+    let (number, t) = saying::numbered(clock::decode(s));
+    with_stamp(saying::begin(number, 0), t)
 }
 
 pub fn stamp_next(body: &[u8]) -> Said {
-    let given = clock::next(stamp_at(body, 0));
-    with_stamp(saying::begin(given.number, 0), given.stamp)
+    let (number, t) = saying::numbered(clock::next(stamp_at(body, 0)));
+    with_stamp(saying::begin(number, 0), t)
 }
 
 pub fn stamp_follows(body: &[u8]) -> Said {
-    let verdict = clock::follows(stamp_at(body, 0), stamp_at(body, STAMP));
-    saying::one(verdict.number, verdict.yes as u64)
+    let (number, yes) = saying::numbered(clock::follows(stamp_at(body, 0), stamp_at(body, STAMP)));
+    saying::one(number, u64::from(yes))
 }
 
 pub fn recording_open(s: &[u8]) -> Said {

@@ -113,8 +113,8 @@ fn moment_at(body: &[u8], at: usize) -> Record {
 }
 
 fn said_follows(body: &[u8]) -> Said {
-    let verdict = record::follows(moment_at(body, 0), moment_at(body, 17));
-    saying::one(verdict.number, verdict.yes as u64)
+    let (number, yes) = saying::numbered(record::follows(moment_at(body, 0), moment_at(body, 17)));
+    saying::one(number, u64::from(yes))
 }
 
 fn follows(body: &[u8], out: &mut [u8]) -> usize {

@@ -1,6 +1,6 @@
 -- What the calls answer and leave, by the way taken through their tests. Assumes nothing.
 use Prim.Native.Nat.{ℕ, ◌+◌, ◌<◌, ◌≤◌}
-use mathlib.Core.Bool.{Bool, false, ◌&&◌, ◌||◌}
+use mathlib.Core.Bool.{Bool, true, false, ◌||◌}
 use mathlib.Core.Path.{◌≡◌, refl, sym, ap, ◌∙◌}
 use mathlib.Core.List.{List}
 use native.Mathlib.Omega.{arith}
@@ -14,8 +14,8 @@ use Rattle.fields.specs.Numbers.{put_at}
 use Rattle.fields.proofs.Reading.{number_in}
 use Rattle.fields.proofs.Writing.{put_in}
 use Rattle.clock.specs.declared.Stamp.{Stamp}
-use Rattle.clock.specs.declared.Stamped.{Stamped}
-use Rattle.clock.specs.Stamps.{bits_of, field_tests, stamp_bytes, encode_tests, encode_number, encoded_for, output_for, stamp_from, stamp_of, late, decode_tests, no_stamp, stamped, decoded_for}
+use Rattle.clock.specs.Answers.{no_stamp}
+use Rattle.clock.specs.Stamps.{bits_of, field_tests, stamp_bytes, encode_tests, encode_number, encoded_for, output_for, stamp_from, stamp_of, late, decode_tests, stamped, decoded_for}
 use Rattle.clock.specs.Next.{elapsed, later, next_tests, next_for}
 use Rattle.clock.specs.Follows.{one_more, time_follows, utco_follows, stamp_follows, follows_tests, follows_for}
 use Rattle.clock.proofs.Fit.{free_fields}
@@ -52,13 +52,13 @@ pub whole : (n : ℕ) (s : List ℕ) → length s ≡ n → number_at n s 0 ≡ 
 whole n s l = number_in n s 0 (omega arith) ∙ ap big_of (take_all n s (omega arith))
 
 module _ (value : List ℕ) where
-  pub decode_long : (r : Stamped) → 65528 < length value → r ≡ record { number = 1; stamp = no_stamp } → r ≡ decoded_for value
+  pub decode_long : 65528 < length value → record { number = 1; stamp = no_stamp } ≡ decoded_for value
   unfolding decode_tests stamped decoded_for
-  decode_long r h e = e ∙ simp (lt-ltb _ _ h)
+  decode_long h = simp (lt-ltb _ _ h)
 
-  pub decode_length : (r : Stamped) → length value ≤ 65528 → (length value ≡ 8 → ⊥) → r ≡ record { number = 5; stamp = no_stamp } → r ≡ decoded_for value
+  pub decode_length : length value ≤ 65528 → (length value ≡ 8 → ⊥) → record { number = 5; stamp = no_stamp } ≡ decoded_for value
   unfolding decode_tests stamped decoded_for
-  decode_length r s h e = e ∙ simp (le-ltb _ _ s, ne_eqb _ _ h)
+  decode_length s h = simp (le-ltb _ _ s, ne_eqb _ _ h)
 
   module _ (l : length value ≡ 8) (x : ℕ) (ex : x ≡ number_at 8 value 0) (t : Stamp) (et : t ≡ stamp_from x) where
     read : t ≡ stamp_of value
@@ -68,9 +68,9 @@ module _ (value : List ℕ) where
     short : ltb 65528 (length value) ≡ false
     short = let h : length value ≤ 65528 = omega arith in le-ltb _ _ h
 
-    pub decode_late : (r : Stamped) → 999 < t.milliseconds → r ≡ record { number = 6; stamp = no_stamp } → r ≡ decoded_for value
+    pub decode_late : 999 < t.milliseconds → record { number = 6; stamp = no_stamp } ≡ decoded_for value
     unfolding decode_tests late stamped decoded_for
-    decode_late r h e = e ∙ simp (short, eq-eqb _ _ l, ← read, lt-ltb _ _ h)
+    decode_late h = simp (short, eq-eqb _ _ l, ← read, lt-ltb _ _ h)
 
     pub decode_done : t.milliseconds ≤ 999 → record { number = 0; stamp = t } ≡ decoded_for value
     unfolding decode_tests late stamped decoded_for
@@ -79,18 +79,18 @@ module _ (value : List ℕ) where
 -- ---- next
 
 module _ (t : Stamp) where
-  pub next_fields : (n : ℕ) (r : Stamped) → n ≡ refused_with (field_tests t) → (n ≡ 0 → ⊥) → r ≡ record { number = n; stamp = no_stamp } → r ≡ next_for t
+  pub next_fields : (n : ℕ) → n ≡ refused_with (field_tests t) → (n ≡ 0 → ⊥) → record { number = n; stamp = no_stamp } ≡ next_for t
   unfolding next_tests stamped next_for
-  next_fields n r e h q =
+  next_fields n e h =
       let k : refused_with (next_tests t) ≡ n = before (field_tests t) _ (λ z. h (e ∙ z)) ∙ sym e in
-      q ∙ simp (k, ne_eqb n 0 h)
+      simp (k, ne_eqb n 0 h)
 
   module _ (e : refused_with (field_tests t) ≡ 0) (s : Stamp) (es : s ≡ later t) where
-    pub next_none : (r : Stamped) → 1099511627776 ≤ s.seconds → r ≡ record { number = 18; stamp = no_stamp } → r ≡ next_for t
+    pub next_none : 1099511627776 ≤ s.seconds → record { number = 18; stamp = no_stamp } ≡ next_for t
     unfolding next_tests stamped next_for
-    next_none r h q =
+    next_none h =
         let k : refused_with (next_tests t) ≡ 18 = behind (field_tests t) _ (free_fields t e) ∙ simp (← es, le-leb _ _ h) in
-        q ∙ simp k
+        simp k
 
     pub next_done : s.seconds < 1099511627776 → record { number = 0; stamp = s } ≡ next_for t
     unfolding next_tests stamped next_for
@@ -100,10 +100,24 @@ module _ (t : Stamp) where
 
 -- ---- follows
 
-pub utco_is : (a b : Stamp) (x y : ℕ) → x ≡ one_more a.utco → y ≡ one_more b.utco
-    → (eqb b.utco a.utco || eqb b.utco x || eqb a.utco y) ≡ utco_follows a b
-unfolding utco_follows
-utco_is a b x y ex ey = rw (ex, ey) refl
+-- the UTCO is the same or one more, and then that or one less
+module _ (a b : Stamp) (p : Bool) where
+  abbrev pub Near : Type 0
+  Near = p ≡ (eqb b.utco a.utco || eqb b.utco (one_more a.utco))
+
+  pub near_same : b.utco ≡ a.utco → p ≡ eqb b.utco a.utco → Near
+  near_same h e = e ∙ eq-eqb _ _ h ∙ sym (ap (λ (c : Bool). c || eqb b.utco (one_more a.utco)) (eq-eqb _ _ h))
+
+  pub near_more : (x : ℕ) → x ≡ one_more a.utco → (b.utco ≡ a.utco → ⊥) → p ≡ eqb b.utco x → Near
+  near_more x ex h e = e ∙ ap (eqb b.utco) ex ∙ sym (ap (λ (c : Bool). c || eqb b.utco (one_more a.utco)) (ne_eqb _ _ h))
+
+  pub near_follows : Near → p ≡ true → p ≡ utco_follows a b
+  unfolding utco_follows
+  near_follows n e = e ∙ sym (ap (λ (c : Bool). c || eqb a.utco (one_more b.utco)) (sym n ∙ e))
+
+  pub far_follows : Near → p ≡ false → (y : ℕ) → y ≡ one_more b.utco → eqb a.utco y ≡ utco_follows a b
+  unfolding utco_follows
+  far_follows n e y ey = ap (eqb a.utco) ey ∙ sym (ap (λ (c : Bool). c || eqb a.utco (one_more b.utco)) (sym n ∙ e))
 
 module _ (a b : Stamp) where
   pub follows_first : (n : ℕ) → n ≡ refused_with (field_tests a) → (n ≡ 0 → ⊥) → record { number = n; yes = false } ≡ follows_for a b
@@ -121,7 +135,11 @@ module _ (a b : Stamp) where
     unfolding follows_for
     follows_second n q h = simp (second, ← q, ne_eqb n 0 h)
 
-    pub follows_both : refused_with (field_tests b) ≡ 0 → (x y : ℕ) (u : Bool) → x ≡ elapsed b → y ≡ elapsed a → u ≡ utco_follows a b
-        → record { number = 0; yes = eqb x (y + 400) && u } ≡ follows_for a b
-    unfolding follows_for stamp_follows time_follows
-    follows_both q x y u ex ey eu = simp (second, q, ex, ey, eu)
+    module _ (q : refused_with (field_tests b) ≡ 0) (x y : ℕ) (ex : x ≡ elapsed b) (ey : y ≡ elapsed a) where
+      pub follows_time : x ≡ y + 400 → (u : Bool) → u ≡ utco_follows a b → record { number = 0; yes = u } ≡ follows_for a b
+      unfolding follows_for stamp_follows time_follows
+      follows_time h u eu = simp (second, q, ← ex, ← ey, eq-eqb _ _ h, eu)
+
+      pub follows_never : (x ≡ y + 400 → ⊥) → record { number = 0; yes = eqb x (y + 400) } ≡ follows_for a b
+      unfolding follows_for stamp_follows time_follows
+      follows_never h = simp (second, q, ← ex, ← ey, ne_eqb _ _ h)

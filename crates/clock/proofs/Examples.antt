@@ -4,7 +4,8 @@ use mathlib.Core.Path.{◌≡◌, refl}
 use mathlib.Core.List.{[], ◌∷◌}
 use Rattle.laws.specs.Big.{bytes_of, big_of}
 use Rattle.clock.specs.declared.Stamp.{Stamp}
-use Rattle.clock.specs.Stamps.{bits_of, stamp_from, stamp_bytes, stamp_of, late, field_tests, decode_tests, no_stamp, stamped, decoded_for}
+use Rattle.clock.specs.Answers.{no_stamp}
+use Rattle.clock.specs.Stamps.{bits_of, stamp_from, stamp_bytes, stamp_of, late, field_tests, decode_tests, stamped, decoded_for}
 use Rattle.clock.specs.Next.{elapsed, later, next_tests, next_for}
 
 abbrev at : ℕ → ℕ → ℕ → Stamp

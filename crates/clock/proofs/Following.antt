@@ -10,8 +10,7 @@ use Rattle.laws.specs.Refuse.{refused_with}
 use Rattle.laws.proofs.Flags.{both, either}
 use Rattle.laws.proofs.Verdict.{yes_means, Numbered, numbered_join, one_number}
 use Rattle.clock.specs.declared.Stamp.{Stamp}
-use Rattle.clock.specs.declared.Stamped.{Stamped}
-use Rattle.clock.specs.declared.Judged.{Judged}
+use Rattle.clock.specs.Answers.{Stamped, Judged}
 use Rattle.clock.specs.Stamps.{Within, field_tests}
 use Rattle.clock.specs.Next.{elapsed, next_for}
 use Rattle.clock.specs.Follows.{one_more, time_follows, utco_follows, stamp_follows, follows_tests, follows_for}

@@ -7,3 +7,4 @@ pub mod Later
 pub mod Successor
 pub mod RoundTrip
 pub mod Settled
+pub mod Told

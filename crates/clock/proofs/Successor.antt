@@ -12,7 +12,7 @@ use Rattle.laws.proofs.Verdict.{yes_means}
 use Rattle.laws.specs.Refuse.{test, refused_with}
 use Rattle.laws.proofs.Refuse.{accepted}
 use Rattle.clock.specs.declared.Stamp.{Stamp}
-use Rattle.clock.specs.declared.Stamped.{Stamped}
+use Rattle.clock.specs.Answers.{Stamped}
 use Rattle.clock.specs.Stamps.{Within, field_tests, stamped}
 use Rattle.clock.specs.Next.{elapsed, later, next_tests, next_for}
 use Rattle.clock.specs.Follows.{time_follows, utco_follows, stamp_follows, follows_tests, follows_for}

@@ -1,3 +1,4 @@
+pub mod Answers
 pub mod Following
 pub mod Follows
 pub mod Next

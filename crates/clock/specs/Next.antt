@@ -2,7 +2,7 @@
 use Rattle.std.specs.Prelude.{ℕ, ◌+◌, ◌*◌, ◌/◌, ◌%◌, ◌^◌, List, [], ◌∷◌, ◌++◌, leb}
 use Rattle.laws.specs.Refuse.{Test, test, refused_with}
 use Rattle.clock.specs.declared.Stamp.{Stamp}
-use Rattle.clock.specs.declared.Stamped.{Stamped}
+use Rattle.clock.specs.Answers.{Stamped}
 use Rattle.clock.specs.Stamps.{field_tests, stamped}
 
 -- milliseconds since the seconds began to count

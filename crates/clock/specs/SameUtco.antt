@@ -4,7 +4,7 @@ use Rattle.std.specs.Prelude.{Bool, false, ◌&&◌, eqb}
 use Rattle.laws.specs.Pick.{pick}
 use Rattle.laws.specs.Refuse.{refused_with}
 use Rattle.clock.specs.declared.Stamp.{Stamp}
-use Rattle.clock.specs.declared.Judged.{Judged}
+use Rattle.clock.specs.Answers.{Judged}
 use Rattle.clock.specs.Follows.{time_follows, follows_tests}
 
 unfoldable pub same_utco : Stamp → Stamp → Bool

@@ -9,7 +9,7 @@ use Rattle.laws.specs.Written.{written}
 use Rattle.clock.specs.declared.Stamp.{Stamp}
 use Rattle.moves.specs.declared.Wrote.{Wrote}
 use Rattle.moves.specs.Wrote.{wrote_of}
-use Rattle.clock.specs.declared.Stamped.{Stamped}
+use Rattle.clock.specs.Answers.{Stamped, no_stamp}
 
 -- the item's fields, in its order
 abbrev pub widths : List ℕ
@@ -66,10 +66,6 @@ late value = ltb 999 (stamp_of value).milliseconds
 
 unfoldable pub decode_tests : List ℕ → List Test
 decode_tests value = test (ltb longest (length value)) 1 ∷ test (not (eqb (length value) 8)) 5 ∷ test (late value) 6 ∷ []
-
--- all zeros where a call refuses
-abbrev pub no_stamp : Stamp
-no_stamp = record { utco = 0; seconds = 0; milliseconds = 0 }
 
 unfoldable pub stamped : ℕ → Stamp → Stamped
 stamped n t = record { number = n; stamp = pick (eqb n 0) t no_stamp }

@@ -4,72 +4,48 @@
 
 ghost use Rattle.std.specs.Prelude.{◌≡◌, ◌<◌, ◌^◌};
 ghost use Rattle.laws.specs.Refuse.{refused_with};
+ghost use Rattle.refusal.specs.Refusal.{number_in};
+ghost use Rattle.moves.specs.Wrote.{wrote_in};
+ghost use Rattle.clock.specs.Answers.{stamped_in, judged_in};
 ghost use Rattle.clock.specs.Follows.{one_more, utco_follows, follows_for};
 ghost use Rattle.clock.specs.Next.{elapsed, later, next_for};
-ghost use Rattle.clock.specs.Stamps.{Within, bits_of, stamp_from, field_tests, encoded_for, output_for, no_stamp, decoded_for};
+ghost use Rattle.clock.specs.Stamps.{Within, bits_of, stamp_from, field_tests, encoded_for, output_for, decoded_for};
 
-use moves::Wrote;
+use refusal::Refusal;
 
 // Seconds since 2000-01-01T00:00:00 UTC, leap seconds counted; UTCO is what they are ahead of UTC by (002, annex B: DRM = UTC + UTCO).
-#[derive(Clone, Copy)]
+#[derive(Clone, Copy, Default, PartialEq, Eq)]
 pub struct Stamp {
     pub utco: u16,
     pub seconds: u64,
     pub milliseconds: u16,
 }
 
-// The answer of a call that gives a timestamp: all zeros where it refuses.
-#[derive(Clone, Copy)]
-pub struct Stamped {
-    pub number: u32,
-    pub stamp: Stamp,
-}
-
-#[derive(Clone, Copy)]
-pub struct Judged {
-    pub number: u32,
-    pub yes: bool,
-}
-
-// 6 where a field is too large for its bits or the milliseconds are over 999, else 0.
-pub fn check(t: Stamp) -> u32
-    ensures { result ≡ refused_with (field_tests t) }
+// Refused where a field is too large for its bits or the milliseconds are over 999.
+pub fn check(t: Stamp) -> Result<(), Refusal>
+    ensures { number_in result ≡ refused_with (field_tests t) }
 {
-    if 16384 <= t.utco {
-        return 6;
+    if 16384 <= t.utco || 1099511627776 <= t.seconds || 999 < t.milliseconds {
+        return Err(Refusal::BadValue);
     }
-    if 1099511627776 <= t.seconds {
-        return 6;
-    }
-    if 999 < t.milliseconds {
-        return 6;
-    }
-    0
+    Ok(())
 }
 
-// Writes the timestamp to the front of the output.
-pub fn encode(t: Stamp, out: &mut [u8]) -> Wrote
-    ensures answer { result ≡ encoded_for t out.old }
+// Writes the timestamp to the front of the output, and answers how many bytes that are.
+pub fn encode(t: Stamp, out: &mut [u8]) -> Result<usize, Refusal>
+    ensures answer { wrote_in result ≡ encoded_for t out.old }
     ensures memory { out.new ≡ output_for t out.old }
 {
-    let number = check(t);
-    if number != 0 {
-        return Wrote { number, length: 0 };
-    }
+    check(t)?;
     if out.len() < 8 {
-        return Wrote {
-            number: 1,
-            length: 0,
-        };
+        return Err(Refusal::Size);
     }
     fields::write64(out, 0, bits_of(t));
-    Wrote {
-        number: 0,
-        length: 8,
-    }
+    Ok(8)
 }
 
 // The three fields as 64 bits, the first the most significant, and the fields of 64 bits.
+#[tactic(auto, unfolding(crate::specs::Stamps::bits_of))]
 fn bits_of(t: Stamp) -> u64
     requires { Within t }
     ensures { result ≡ bits_of t }
@@ -77,6 +53,7 @@ fn bits_of(t: Stamp) -> u64
     t.utco as u64 * 1125899906842624 + t.seconds * 1024 + t.milliseconds as u64
 }
 
+#[tactic(auto, unfolding(crate::specs::Stamps::stamp_from))]
 fn stamp_of(bits: u64) -> Stamp
     ensures { result ≡ stamp_from bits }
 {
@@ -87,32 +64,21 @@ fn stamp_of(bits: u64) -> Stamp
     }
 }
 
-// Reads the value of a `tist` item. Refused with 1 (over 65,528 bytes), 5, 6.
-pub fn decode(value: &[u8]) -> Stamped
-    ensures { result ≡ decoded_for value.now }
+// Reads the value of a `tist` item.
+pub fn decode(value: &[u8]) -> Result<Stamp, Refusal>
+    ensures { stamped_in result ≡ decoded_for value.now }
 {
     if 65528 < value.len() {
-        return refused(1);
+        return Err(Refusal::Size);
     }
     if value.len() != 8 {
-        return refused(5);
+        return Err(Refusal::ItemLength);
     }
     let stamp = stamp_of(fields::read64(value, 0));
     if 999 < stamp.milliseconds {
-        return refused(6);
+        return Err(Refusal::BadValue);
     }
-    Stamped { number: 0, stamp }
-}
-
-fn refused(number: u32) -> Stamped
-    ensures { result ≡ record { number = number; stamp = no_stamp } }
-{
-    let stamp = Stamp {
-        utco: 0,
-        seconds: 0,
-        milliseconds: 0,
-    };
-    Stamped { number, stamp }
+    Ok(stamp)
 }
 
 // 400 ms later; a second more from 600 ms on.
@@ -122,55 +88,36 @@ fn step(t: Stamp) -> Stamp
 {
     if t.milliseconds < 600 {
         return Stamp {
-            utco: t.utco,
-            seconds: t.seconds,
             milliseconds: t.milliseconds + 400,
+            ..t
         };
     }
     Stamp {
-        utco: t.utco,
         seconds: t.seconds + 1,
         milliseconds: t.milliseconds - 600,
+        ..t
     }
 }
 
-// The timestamp 400 ms later. 18: its seconds do not fit 40 bits.
-pub fn next(t: Stamp) -> Stamped
-    ensures { result ≡ next_for t }
+// The timestamp 400 ms later, where its seconds fit 40 bits.
+pub fn next(t: Stamp) -> Result<Stamp, Refusal>
+    ensures { stamped_in result ≡ next_for t }
 {
-    let number = check(t);
-    if number != 0 {
-        return refused(number);
-    }
+    check(t)?;
     let stamp = step(t);
     if 1099511627776 <= stamp.seconds {
-        return refused(18);
+        return Err(Refusal::NoSuccessor);
     }
-    Stamped { number: 0, stamp }
+    Ok(stamp)
 }
 
 // Whether b follows a. The UTCO is compared by itself, as the time is.
-pub fn follows(a: Stamp, b: Stamp) -> Judged
-    ensures { result ≡ follows_for a b }
+pub fn follows(a: Stamp, b: Stamp) -> Result<bool, Refusal>
+    ensures { judged_in result ≡ follows_for a b }
 {
-    let first = check(a);
-    if first != 0 {
-        return Judged {
-            number: first,
-            yes: false,
-        };
-    }
-    let second = check(b);
-    if second != 0 {
-        return Judged {
-            number: second,
-            yes: false,
-        };
-    }
-    Judged {
-        number: 0,
-        yes: (total(b) == total(a) + 400) & utco_follows(a, b),
-    }
+    check(a)?;
+    check(b)?;
+    Ok(total(b) == total(a) + 400 && utco_follows(a, b))
 }
 
 // The UTCO is the same, one more or one less: it changes with each leap second (002, 5.2.2).
@@ -180,10 +127,11 @@ fn utco_follows(a: Stamp, b: Stamp) -> bool
 {
     let u = a.utco;
     let v = b.utco;
-    (v == u) | (v == one_more(u)) | (u == one_more(v))
+    v == u || v == one_more(u) || u == one_more(v)
 }
 
 // One more, modulo 16,384.
+#[tactic(auto, unfolding(crate::specs::Follows::one_more))]
 fn one_more(utco: u16) -> u16
     requires { utco < 2 ^ 14 }
     ensures { result ≡ one_more utco }
@@ -192,6 +140,7 @@ fn one_more(utco: u16) -> u16
 }
 
 // Milliseconds since the seconds began to count.
+#[tactic(auto, unfolding(crate::specs::Next::elapsed))]
 fn total(t: Stamp) -> u64
     requires { Within t }
     ensures { (result ≡ elapsed t) × (result < 2 ^ 50) }

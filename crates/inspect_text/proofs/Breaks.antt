@@ -1,13 +1,17 @@
 -- The ways through the code of a break, in its own words. Assumes nothing.
 use Prim.Native.Nat.{ℕ}
-use mathlib.Core.Bool.{true, false}
+use mathlib.Core.Bool.{Bool, true, false}
 use mathlib.Core.List.{List, ◌++◌}
-use mathlib.Core.Path.{◌≡◌}
+use mathlib.Core.Path.{◌≡◌, sym, ◌∙◌}
 use Rattle.moves.specs.Moves.{Puts}
 use Rattle.moves.proofs.Pieces.{puts_none}
 use Rattle.line_text.specs.Decimal.{ascii}
 use Rattle.clock.specs.declared.Stamp.{Stamp}
-use Rattle.clock.specs.declared.Judged.{Judged}
+use Rattle.std.specs.Prelude.{Result}
+use Rattle.std.specs.Result.{result_unwrap_or}
+use Rattle.refusal.specs.declared.Refusal.{Refusal}
+use Rattle.clock.specs.Answers.{judged_in}
+use Rattle.clock.proofs.Told.{yes_of}
 use Rattle.record.specs.declared.Record.{Record}
 use Rattle.record.specs.declared.Time.{Time}
 use Rattle.record.specs.declared.Time.TheVariants.{Absent, Given}
@@ -23,11 +27,11 @@ module _ {d e : List ℕ} {at n : ℕ} where
   unfolding raw_text
   raw_given t s h p = rw h p
 
-  pub break_some : (x y : Record) (v : Judged) → v ≡ follows_for x y → v.yes ≡ false
+  pub break_some : (x y : Record) (o : Result Bool Refusal) → judged_in o ≡ follows_for x y → result_unwrap_or o false ≡ false
       → Puts d at (count_text (ascii "break: count ") x.count x.time ++ (count_text (ascii ", then count ") y.count y.time ++ ascii "\n")) e n → Puts d at (break_text x y) e n
   unfolding break_text
-  break_some x y v f h p = rw (← f, h) p
+  break_some x y o f h p = rw (← f, sym (yes_of o) ∙ h) p
 
-pub break_none : (d : List ℕ) (at : ℕ) (x y : Record) (v : Judged) → v ≡ follows_for x y → v.yes ≡ true → Puts d at (break_text x y) d at
+pub break_none : (d : List ℕ) (at : ℕ) (x y : Record) (o : Result Bool Refusal) → judged_in o ≡ follows_for x y → result_unwrap_or o false ≡ true → Puts d at (break_text x y) d at
 unfolding break_text
-break_none d at x y v f h = rw (← f, h) (puts_none d at)
+break_none d at x y o f h = rw (← f, sym (yes_of o) ∙ h) (puts_none d at)

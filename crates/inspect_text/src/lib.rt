@@ -145,8 +145,7 @@ fn put_count(word: &[u8], n: u64, t: Time, out: &mut [u8], at: usize) -> usize
 pub fn broken(x: Record, y: Record, out: &mut [u8; 1024]) -> usize
     ensures { Puts out.old 0 (break_text x y) out.new result }
 {
-    let v = record::follows(x, y);
-    if v.yes {
+    if record::follows(x, y).unwrap_or(false) {
         return 0;
     }
     let s = x.time;

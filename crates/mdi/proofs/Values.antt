@@ -11,7 +11,15 @@ use Rattle.laws.specs.Pick.{pick}
 use Rattle.laws.specs.Big.{big_of, number_at, Bytes}
 use Rattle.laws.proofs.Big.{bytes_take}
 use Rattle.clock.specs.Stamps.{decoded_for}
-use Rattle.clock.specs.declared.Stamped.{Stamped}
+use Rattle.clock.specs.Answers.{Stamped, stamped_in}
+use Rattle.clock.specs.declared.Stamp.{Stamp}
+use Rattle.clock.specs.contracts.StampPartialEq.TheImpl as stamps
+use Rattle.clock.proofs.Told.{six_of}
+use Rattle.refusal.specs.contracts.RefusalPartialEq.TheImpl as refusals
+use Rattle.refusal.specs.declared.Refusal.{Refusal}
+use Rattle.refusal.specs.declared.Refusal.TheVariants.{BadValue}
+use Rattle.std.specs.Prelude.{Result, Err}
+use Rattle.std.specs.Result.{result_eq}
 use Rattle.description.specs.Bytes.{said_of, described_by}
 use Rattle.description.specs.WellFormed.{ill_formed}
 use Rattle.description.specs.declared.Description.{Description}
@@ -65,9 +73,10 @@ unfolding known_mode
 mode_none [] h = refl
 mode_none (x ∷ v) h = absurd (omega arith)
 
-pub time_is : (v : List ℕ) (g : Stamped) → g ≡ decoded_for v → not (eqb g.number 6) ≡ on_time v
+pub time_is : (v : List ℕ) (o : Result Stamp Refusal) → stamped_in o ≡ decoded_for v
+    → not (result_eq stamps.eq-value.it refusals.eq-value.it o (Err BadValue)) ≡ on_time v
 unfolding on_time
-time_is v g e = rw e refl
+time_is v o e = ap not (six_of o ∙ ap (λ (g : Stamped). eqb g.number 6) e)
 
 two_nots : (b : Bool) → not (not b) ≡ b
 two_nots true = refl

@@ -9,7 +9,10 @@ use lib.ListN.{length, get_or}
 use Rattle.laws.specs.Big.{number_at}
 use Rattle.laws.specs.Refuse.{refused_with, refused_at}
 use Rattle.clock.specs.Stamps.{decoded_for}
-use Rattle.clock.specs.declared.Stamped as clocked
+use Rattle.clock.specs.Answers.{Stamped, stamped_in}
+use Rattle.clock.specs.declared.Stamp.{Stamp}
+use Rattle.refusal.specs.declared.Refusal.{Refusal}
+use Rattle.std.specs.Prelude.{Result}
 use Rattle.description.specs.Bytes.{described_by}
 use Rattle.description.specs.declared.Description.{Description}
 use Rattle.fac.specs.Channel.{fac_of}
@@ -53,10 +56,11 @@ module _ (S : List ℕ) (x : Spot) (e : x ≡ spot_of (find tist (cut_of S).item
   pub time_none : x.start ≡ 0 → Absent ≡ time_of (find tist (cut_of S).items)
   time_none h = time_away (find tist (cut_of S).items) (sym (ap (λ (y : Spot). y.start) e) ∙ h)
 
-  pub time_some : (x.start ≡ 0 → ⊥) → (v : List ℕ) → v ≡ shown_at S x → (g : clocked.Stamped) → g ≡ decoded_for v → Given g.stamp ≡ time_of (find tist (cut_of S).items)
-  time_some h v q g r =
+  pub time_some : (x.start ≡ 0 → ⊥) → (v : List ℕ) → v ≡ shown_at S x → (o : Result Stamp Refusal) → stamped_in o ≡ decoded_for v
+      → (t : Stamp) → t ≡ (stamped_in o).stamp → Given t ≡ time_of (find tist (cut_of S).items)
+  time_some h v q o r t w =
       let k : v ≡ value_of (find tist (cut_of S).items) = q ∙ ap (shown_at S) e ∙ value_is S tist in
-      ap (λ (y : clocked.Stamped). Given y.stamp) (r ∙ ap decoded_for k)
+      ap Given w ∙ ap (λ (y : Stamped). Given y.stamp) (r ∙ ap decoded_for k)
       ∙ time_given (find tist (cut_of S).items) (λ z. h (ap (λ (y : Spot). y.start) e ∙ z))
 
 -- ---- the record

@@ -15,6 +15,7 @@ use description::{Description, Lengths};
 use items::Spot;
 use mdi_spots::Spots;
 use record::{Record, Time};
+use refusal::Refusal;
 
 // Number 0: the packet is well formed, and its known items stand at these spots. The place is an offset in the packet for 2 and 3, else
 // 0.
@@ -64,8 +65,7 @@ fn is_known_mode(v: &[u8]) -> bool
 fn is_on_time(v: &[u8]) -> bool
     ensures { result ≡ on_time v.now }
 {
-    let g = clock::decode(v);
-    !(g.number == 6)
+    clock::decode(v) != Err(Refusal::BadValue)
 }
 
 // 6
@@ -223,8 +223,7 @@ fn time_of(s: &[u8], x: Spot) -> Time
     if x.start == 0 {
         return Time::Absent;
     }
-    let g = clock::decode(items::value(s, x));
-    let stamp = g.stamp;
+    let stamp = clock::decode(items::value(s, x)).unwrap_or_default();
     Time::Given { stamp }
 }
 

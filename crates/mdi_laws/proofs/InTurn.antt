@@ -9,7 +9,7 @@ use lib.ListN.{length}
 use Rattle.laws.proofs.Big.{bytes_length}
 use Rattle.laws.proofs.Flags.{or_false}
 use Rattle.clock.specs.declared.Stamp.{Stamp}
-use Rattle.clock.specs.declared.Judged.{Judged}
+use Rattle.clock.specs.Answers.{Judged}
 use Rattle.clock.specs.Stamps.{Within, bits_of, stamp_bytes}
 use Rattle.clock.specs.Next.{elapsed}
 use Rattle.clock.specs.Following.{OneApart, FrameLater, with_utco}

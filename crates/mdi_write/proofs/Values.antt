@@ -243,17 +243,6 @@ module _ (time : Time) where
     unfolding time_bytes
     time_some t r e q p w = (p ∙ rw q refl, w ∙ rw q refl)
 
--- a timestamp's own refusals, with room for it
-pub stamp_wrong : (t : Stamp) (x : Rattle.moves.specs.declared.Wrote.Wrote) → x ≡ clock.encoded_for t (replicate 8 0) → not (eqb x.number 0) ≡ not (eqb (refused_with (clock.field_tests t)) 0)
-unfolding clock.encoded_for clock.encode_number clock.encode_tests
-stamp_wrong t x e = ap (λ (k : ℕ). not (eqb k 0)) (ap (λ (y : Rattle.moves.specs.declared.Wrote.Wrote). y.number) e ∙ go (eqb (refused_with (clock.field_tests t)) 0) refl)
-  where
-    go : (b : Bool) → eqb (refused_with (clock.field_tests t)) 0 ≡ b → refused_with (clock.encode_tests t (replicate 8 0)) ≡ refused_with (clock.field_tests t)
-    go true q =
-        let z = eqb-true _ _ q in
-        Rattle.laws.proofs.Join.behind (clock.field_tests t) _ (Rattle.clock.proofs.Fit.free_fields t z) ∙ sym z
-    go false q = Rattle.laws.proofs.Join.before (clock.field_tests t) _ (borrow.Author.Tests.eqb-false _ _ q)
-
 -- ---- lengths
 pub four_said : (n0 n1 n2 n3 x0 x1 x2 x3 y0 y1 y2 y3 : ℕ) → x0 ≡ y0 → x1 ≡ y1 → x2 ≡ y2 → x3 ≡ y3
     → (eqb n0 x0 && eqb n1 x1 && eqb n2 x2 && eqb n3 x3) ≡ (eqb n0 y0 && eqb n1 y1 && eqb n2 y2 && eqb n3 y3)

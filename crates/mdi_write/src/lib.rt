@@ -108,7 +108,7 @@ fn put_stamp(names: &[u8], t: clock::Stamp, out: &mut [u8], at: usize) -> usize
     ensures out_after { out.new ≡ written out.old at (wire (name_of 10) (stamp_bytes t)) }
 {
     let mut value = [0u8; 8];
-    clock::encode(t, &mut value);
+    let _ = clock::encode(t, &mut value);
     put_item(names, mdi_spots::TIST, &value, out, at)
 }
 
@@ -181,9 +181,7 @@ fn is_bad(time: record::Time) -> bool
 fn is_wrong(t: clock::Stamp) -> bool
     ensures { result ≡ not (eqb (refused_with (field_tests t)) 0) }
 {
-    let mut value = [0u8; 8];
-    let e = clock::encode(t, &mut value);
-    !(e.number == 0)
+    clock::check(t).is_err()
 }
 
 // Whether a field is too large for its bits.

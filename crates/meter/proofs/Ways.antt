@@ -4,7 +4,10 @@ use mathlib.Core.Path.{◌≡◌, refl, sym, ap, ◌∙◌}
 use mathlib.Core.List.{List}
 use lib.ListN.{length, get_or, get_or-eq_default}
 use Rattle.clock.specs.Stamps.{decoded_for}
-use Rattle.clock.specs.declared.Stamped as clocked
+use Rattle.clock.specs.Answers.{stamped_in}
+use Rattle.clock.specs.declared.Stamp.{Stamp}
+use Rattle.refusal.specs.declared.Refusal.{Refusal}
+use Rattle.std.specs.Prelude.{Result}
 use Rattle.description.specs.Bytes.{described_by}
 use Rattle.description.specs.declared.Description.{Description}
 use Rattle.fac.specs.Channel.{fac_of}
@@ -26,11 +29,11 @@ pub seen_is : (p : List ℕ) (at : ℕ) (a : Answer) → a ≡ read_for p → (b
 unfolding seen_in
 seen_is p at a e b q = rw (q, e) refl
 
-pub made_is : (count mode : ℕ) (A B C D : List ℕ) (f : Fac) (s : Sdc) (x : Description) (g : clocked.Stamped)
-    → f ≡ fac_of A → s ≡ sdc_of B → x ≡ described_by C → g ≡ decoded_for D
-    → ◌≡◌ {A = Record} (record { count = count; fac = f; sdc = s; description = x; robustness = mode; time = Given g.stamp }) (record_for count A B C mode D)
+pub made_is : (count mode : ℕ) (A B C D : List ℕ) (f : Fac) (s : Sdc) (x : Description) (o : Result Stamp Refusal) (t : Stamp)
+    → f ≡ fac_of A → s ≡ sdc_of B → x ≡ described_by C → stamped_in o ≡ decoded_for D → t ≡ (stamped_in o).stamp
+    → ◌≡◌ {A = Record} (record { count = count; fac = f; sdc = s; description = x; robustness = mode; time = Given t }) (record_for count A B C mode D)
 unfolding record_for
-made_is count mode A B C D f s x g q1 q2 q3 q4 = rw (q1, q2, q3, q4) refl
+made_is count mode A B C D f s x o t q1 q2 q3 q4 q5 = rw (q1, q2, q3, q5, q4) refl
 
 module _ (r R : Record) (e : r ≡ R) (ss : Streams) where
   pub wrote_is : (room : ℕ) (w : Wrote) → w ≡ write_for r ss room → w.number ≡ wrote_for R ss room

@@ -93,8 +93,7 @@ fn record_of(count: u32, fac: &[u8], sdc: &[u8], sdci: &[u8], robustness: u8, ti
     let fac = fac::of_value(fac);
     let sdc = sdc::of_value(sdc);
     let description = description::of_value(sdci);
-    let g = clock::decode(tist);
-    let stamp = g.stamp;
+    let stamp = clock::decode(tist).unwrap_or_default();
     let time = Time::Given { stamp };
     Record {
         count,

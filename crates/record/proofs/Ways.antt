@@ -1,10 +1,10 @@
 -- The ways through the code, in its own words. Assumes nothing.
-use Rattle.std.proofs.Common.{◌≡◌, ℕ, ◌+◌, ◌%◌, ◌^◌, Bool, true, false, ◌&&◌, eqb, sym, refl, ◌∙◌, lit<, ne_eqb}
+use Rattle.std.proofs.Common.{◌≡◌, ℕ, ◌+◌, ◌%◌, ◌^◌, Bool, true, false, eqb, sym, refl, ◌∙◌, lit<, ne_eqb, eq-eqb}
 use Rattle.laws.specs.Refuse.{refused_with, Free}
 use Rattle.laws.proofs.Join.{before, behind}
 use Rattle.laws.proofs.Refuse.{free}
 use Rattle.clock.specs.declared.Stamp.{Stamp}
-use Rattle.clock.specs.declared.Judged.{Judged}
+use Rattle.clock.specs.Answers.{Judged}
 use Rattle.clock.specs.Follows as stamps
 use Rattle.clock.specs.Stamps.{field_tests}
 use Rattle.record.specs.declared.Record.{Record}
@@ -58,7 +58,11 @@ module _ (a b : Record) where
     unfolding follows_for
     follows_second n q h = simp (second, ← q, ne_eqb n 0 h)
 
-    pub follows_both : refused_with (time_tests b.time) ≡ 0 → (next : ℕ) (t : Bool) → next ≡ (a.count + 1) % 2 ^ 32 → t ≡ times_follow a.time b.time
-        → record { number = 0; yes = eqb b.count next && t } ≡ follows_for a b
-    unfolding follows_for count_follows
-    follows_both q next t en et = simp (second, q, en, et)
+    module _ (q : refused_with (time_tests b.time) ≡ 0) where
+      pub follows_next : b.count ≡ (a.count + 1) % 2 ^ 32 → (t : Bool) → t ≡ times_follow a.time b.time → record { number = 0; yes = t } ≡ follows_for a b
+      unfolding follows_for count_follows
+      follows_next h t et = simp (second, q, eq-eqb _ _ h, et)
+
+      pub follows_never : (b.count ≡ (a.count + 1) % 2 ^ 32 → ⊥) → record { number = 0; yes = eqb b.count ((a.count + 1) % 2 ^ 32) } ≡ follows_for a b
+      unfolding follows_for count_follows
+      follows_never h = simp (second, q, ne_eqb _ _ h)

@@ -4,7 +4,7 @@ use Rattle.std.specs.Prelude.{◌≡◌, ℕ, ◌+◌, ◌%◌, ◌^◌, Bool, t
 use Rattle.laws.specs.Pick.{pick}
 use Rattle.laws.specs.Refuse.{Test, refused_with}
 use Rattle.clock.specs.declared.Stamp.{Stamp}
-use Rattle.clock.specs.declared.Judged.{Judged}
+use Rattle.clock.specs.Answers.{Judged}
 use Rattle.clock.specs.Follows as stamps
 use Rattle.clock.specs.Following.{FrameLater}
 use Rattle.clock.specs.Stamps.{Within, field_tests}

@@ -4,10 +4,13 @@
 
 ghost use Rattle.std.specs.Prelude.{◌≡◌};
 ghost use Rattle.laws.specs.Refuse.{refused_with};
+ghost use Rattle.refusal.specs.Refusal.{number_in};
+ghost use Rattle.clock.specs.Answers.{judged_in};
 ghost use Rattle.record.specs.Records.{no_record};
 ghost use Rattle.record.specs.Succession.{time_tests, stamp_before, times_follow, follows_for};
 
-use clock::{Judged, Stamp};
+use clock::Stamp;
+use refusal::Refusal;
 
 // The timestamp, where there is one.
 #[derive(Clone, Copy)]
@@ -45,12 +48,12 @@ pub fn none() -> Record
     }
 }
 
-// 6 where there is a timestamp and a field of it is too large, else 0.
-fn number_of(t: Time) -> u32
-    ensures { result ≡ refused_with (time_tests t) }
+// Refused where there is a timestamp and a field of it is too large.
+fn check_time(t: Time) -> Result<(), Refusal>
+    ensures { number_in result ≡ refused_with (time_tests t) }
 {
     match t {
-        Time::Absent => 0,
+        Time::Absent => Ok(()),
         Time::Given { stamp } => clock::check(stamp),
     }
 }
@@ -60,7 +63,7 @@ fn is_before(a: Stamp, t: Time) -> bool
 {
     match t {
         Time::Absent => true,
-        Time::Given { stamp } => clock::follows(a, stamp).yes,
+        Time::Given { stamp } => clock::follows(a, stamp).unwrap_or(false),
     }
 }
 
@@ -75,28 +78,10 @@ fn times_follow(s: Time, t: Time) -> bool
 
 // Whether the second packet follows the first: by its count and, where both have a timestamp, by these. Refused with 6: a field of either
 // timestamp.
-pub fn follows(a: Record, b: Record) -> Judged
-    ensures { result ≡ follows_for a b }
+pub fn follows(a: Record, b: Record) -> Result<bool, Refusal>
+    ensures { judged_in result ≡ follows_for a b }
 {
-    let s = a.time;
-    let t = b.time;
-    let first = number_of(s);
-    if first != 0 {
-        return Judged {
-            number: first,
-            yes: false,
-        };
-    }
-    let second = number_of(t);
-    if second != 0 {
-        return Judged {
-            number: second,
-            yes: false,
-        };
-    }
-    let next = std::num::wrapping_add_u32(a.count, 1);
-    Judged {
-        number: 0,
-        yes: (b.count == next) & times_follow(s, t),
-    }
+    check_time(a.time)?;
+    check_time(b.time)?;
+    Ok(b.count == a.count.wrapping_add(1) && times_follow(a.time, b.time))
 }

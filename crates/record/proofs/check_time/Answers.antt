@@ -1,7 +1,7 @@
--- `record::number_of` meets its contract. Assumes nothing.
+-- `record::check_time` meets its contract. Assumes nothing.
 use Rattle.std.proofs.Common.{rules}
 use Rattle.record.proofs.Ways.{tests_none, tests_given}
-use Rattle.record.proofs.number_of.Goals as goal
+use Rattle.record.proofs.check_time.Goals as goal
 
 pub returns-in-Absent : goal.returns-in-Absent
 returns-in-Absent c = search tests_none
