@@ -61,7 +61,7 @@ fn put_fac(names: &[u8], f: fac::Fac, out: &mut [u8], at: usize) -> usize
     ensures out_after { out.new ≡ written out.old at (wire (name_of 2) (fac_bytes f)) }
 {
     let mut value = [0u8; 9];
-    fac::write(f, &mut value);
+    let _ = fac::write(f, &mut value);
     put_item(names, mdi_spots::FAC, &value, out, at)
 }
 
