@@ -102,6 +102,7 @@ pub fn too_large(f: Fac) -> bool
 }
 
 // Whether the channel is one that 01 does not serve.
+#[tactic(auto, unfolding(crate::specs::Channel::not_served))]
 pub fn not_served(f: Fac) -> bool
     ensures { result ≡ not_served f }
 {
