@@ -1,14 +1,15 @@
 -- What the questions and the reader answer, by the way taken through their tests. Assumes nothing.
 use Prim.Native.Nat.{ℕ, zero, suc, min, ◌+◌, ◌-◌, ◌%◌, ◌≤◌, ◌<◌}
-use mathlib.Core.Bool.{Bool, true, false, not, ◌&&◌}
+use mathlib.Core.Bool.{Bool, true, false, not, ◌&&◌, and-true, and_assoc}
 use mathlib.Core.Path.{◌≡◌, refl, sym, ap, ap₂, ◌∙◌}
-use mathlib.Core.List.{List, [], ◌∷◌, ◌++◌}
+use mathlib.Core.List.{List, ◌++◌}
 use native.Mathlib.Nat.{add-sub_cancel_left}
+use native.Mathlib.Numerals.{add-one}
 use native.Mathlib.Omega.{arith}
 use borrow.Author.Tests.{lt-ltb, le-ltb, le-leb, lt-leb, eq-eqb, ne_eqb, ltb-true, ltb-false}
 use lib.Dec.{ltb, eqb}
-use lib.ListN.{length, get_or, take, drop, replicate, length-drop, length-replicate}
-use lib.Seq.{length-take-le}
+use lib.ListN.{length, get_or, take, drop, replicate, length-drop, length-replicate, drop_of_length-le}
+use lib.Seq.{drop-cons, length-take-le}
 use Rattle.laws.specs.Big.{number_at}
 use Rattle.laws.specs.Pick.{pick}
 use Rattle.laws.specs.Written.{written}
@@ -16,7 +17,6 @@ use Rattle.moves.specs.Moves.{placed}
 use Rattle.moves.proofs.Turns.{placed_is}
 use Rattle.crc.specs.Crc.{crc_of}
 use Rattle.std.specs.Prelude.{Option, None, Some, MatchOption}
-use Rattle.std.specs.List.{list_all}
 use Rattle.sdc.specs.declared.Head.{Head}
 use Rattle.sdc.specs.declared.Sdc.{Sdc}
 use Rattle.sdc.specs.Block.{capped, padded, no_sdc, data_in, sdc_of, sealed, size_of, afs_of, over_long, blank, is_too_large}
@@ -29,11 +29,16 @@ least_is n = go (ltb 1024 n) refl
     go true e = let h : 1024 < n = ltb-true _ _ e in omega arith
     go false e = let h : n ≤ 1024 = ltb-false _ _ e in omega arith
 
--- ---- zeros
-pub blank_all : (s : List ℕ) → list_all (λ x. eqb x 0) s ≡ blank s
+-- ---- zeros from an index on
+pub blank_more : (s : List ℕ) (all b : Bool) (i : ℕ) → i < length s → (all && blank (drop i s)) ≡ b → ((all && eqb (get_or s i 0) 0) && blank (drop (i + 1) s)) ≡ b
 unfolding blank
-blank_all [] = refl
-blank_all (x ∷ s) = ap (λ b. eqb x 0 && b) (blank_all s)
+blank_more s all b i h e =
+    rw add-one
+    (and_assoc all (eqb (get_or s i 0) 0) (blank (drop (suc i) s)) ∙ ap (λ (l : List ℕ). all && blank l) (sym (drop-cons s i 0 h)) ∙ e)
+
+pub blank_done : (s : List ℕ) (all b : Bool) (i : ℕ) → length s ≤ i → (all && blank (drop i s)) ≡ b → all ≡ b
+unfolding blank
+blank_done s all b i h e = sym (and-true all) ∙ ap (λ (l : List ℕ). all && blank l) (sym (drop_of_length-le s h)) ∙ e
 
 -- ---- what a head says
 module _ (h : Option Head) (P : Head → Type 0) (r : ℕ) (m : MatchOption h (r ≡ 0) P) where

