@@ -5,7 +5,7 @@
 ghost use Rattle.std.specs.Prelude.{◌≡◌, ◌∷◌, ◌+◌, ◌≤◌, length, drop};
 ghost use Rattle.laws.specs.Written.{written};
 ghost use Rattle.moves.specs.Moves.{placed};
-ghost use Rattle.sdc.specs.Block.{capped, no_sdc, sdc_of, sealed, sealed16, sdc_bytes, size_of, afs_of, over_long, blank, is_too_large};
+ghost use Rattle.sdc.specs.Block.{no_sdc, sdc_of, sealed, sealed16, sdc_bytes, size_of, afs_of, over_long, blank, is_too_large};
 
 // H of 01: the most data bytes that a block has.
 const MOST: usize = 1024;
@@ -82,7 +82,7 @@ fn afs_of(s: &Sdc) -> u8
 }
 
 // Whether all bytes from an index on are 0.
-// Kept: `iter().all(..)` stops at the first other byte, so it takes one byte a turn: 8,236 instructions in bench's mdi_write, 3,019 so.
+// Kept: `iter().all(..)` stops at the first other byte, so it takes one byte a turn: 8,236 instructions in bench's mdi_write, 3,035 so.
 fn is_blank(s: &[u8], from: usize) -> bool
     ensures { result ≡ blank (drop from s.now) }
 {
