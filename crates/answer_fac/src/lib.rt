@@ -66,12 +66,11 @@ pub fn with_fac(said: Said, f: Fac) -> Said {
 }
 
 pub fn fac_read(s: &[u8]) -> Said {
-    let got = fac::read(s);
-    let f = got.fac;
-    with_fac(saying::begin(got.number, 0), f)
+    let (number, f) = saying::numbered(fac::read(s));
+    with_fac(saying::begin(number, 0), f)
 }
 
 pub fn fac_write(body: &[u8], dst: &mut [u8]) -> Said {
-    let done = fac::write(fac_at(body, 0), dst);
-    saying::one(done.number, done.length as u64)
+    let (number, length) = saying::numbered(fac::write(fac_at(body, 0), dst));
+    saying::one(number, length as u64)
 }

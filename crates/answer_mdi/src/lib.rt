@@ -14,10 +14,10 @@ fn with_front(said: Said, r: Record) -> Said {
 }
 
 // Whether there is an SDC block, its AFS index, its data bytes.
-fn with_head(said: Said, h: Head) -> Said {
+fn with_head(said: Said, h: Option<Head>) -> Said {
     match h {
-        Head::Absent => saying::three(said, 0, 0, 0),
-        Head::Given { afs, size } => saying::three(said, 1, afs as u64, size as u64),
+        None => saying::three(said, 0, 0, 0),
+        Some(h) => saying::three(said, 1, h.afs as u64, h.size as u64),
     }
 }
 
@@ -41,22 +41,14 @@ fn with_rest(said: Said, r: Record) -> Said {
     with_time(saying::value(said, r.robustness as u64), t)
 }
 
-fn size_of(h: Head) -> usize {
-    match h {
-        Head::Absent => 0,
-        Head::Given { afs: _, size } => size,
-    }
-}
-
 // The first n bytes of the SDC data.
 fn first_of(data: &[u8; 1024], n: usize) -> &[u8] {
     case::front(data, n)
 }
 
 fn tell_sdc(s: Sdc, said: Said, out: &mut [u8]) -> usize {
-    let head = s.head;
-    let data = s.body;
-    saying::lent(out, said, first_of(&data, size_of(head)))
+    let size = s.head.map_or(0, |h| h.size);
+    saying::lent(out, said, first_of(&s.body, size))
 }
 
 fn tell_record(r: Record, said: Said, out: &mut [u8]) -> usize {

@@ -9,14 +9,14 @@ use record::{Record, Time};
 use saying::Said;
 use sdc::{Head, Sdc};
 
-fn head_in(body: &[u8]) -> Head {
+fn head_in(body: &[u8]) -> Option<Head> {
     if case::byte(body, 25) == 0 {
-        return Head::Absent;
+        return None;
     }
-    Head::Given {
+    Some(Head {
         afs: case::byte(body, 26),
         size: fields::read64(body, 27) as usize,
-    }
+    })
 }
 
 // The time at a position of the body, behind the mark that says whether there is one.
@@ -50,15 +50,15 @@ fn record_in(body: &[u8], at: usize, data: [u8; 1024]) -> Record {
 }
 
 fn written(r: Record, rooms: &[u8], f: Four, dst: &mut [u8]) -> Said {
-    let done = mdi_write::write(
+    let (number, length) = saying::numbered(mdi_write::write(
         r,
         answer_frame::quarter(rooms, 0, f.a),
         answer_frame::quarter(rooms, 1, f.b),
         answer_frame::quarter(rooms, 2, f.c),
         answer_frame::quarter(rooms, 3, f.d),
         dst,
-    );
-    saying::one(done.number, done.length as u64)
+    ));
+    saying::one(number, length as u64)
 }
 
 fn write_to(

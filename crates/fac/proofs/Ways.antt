@@ -18,7 +18,6 @@ use Rattle.fields.specs.Numbers.{put_at}
 use Rattle.fields.proofs.Writing.{put_in}
 use Rattle.crc.specs.Crc.{crc_of}
 use Rattle.fac.specs.declared.Fac.{Fac}
-use Rattle.fac.specs.declared.Announced.{Announced}
 use Rattle.fac.specs.Channel.{widths, in_order, bits_of, sealed8, fac_bytes, fac_of, sealed, is_too_large, not_served}
 use Rattle.fac.specs.Bounds.{ChannelFits, ServiceFits}
 use Rattle.fac.specs.Answers.{no_fac, read_tests, announced, read_for, write_tests, write_number, write_for, out_for}
@@ -60,16 +59,14 @@ module _ (v : List ℕ) where
 
 pub ruleset reading = (read_1, read_5, read_7, read_9, read_0)
 
-module _ (v : List ℕ) (n : ℕ) (e : n ≡ refused_with (read_tests v)) where
-  pub read_refused : (n ≡ 0 → ⊥) → (r : Announced) → r ≡ record { number = n; fac = no_fac } → r ≡ read_for v
+module _ (v : List ℕ) where
+  pub read_refused : (n : ℕ) → n ≡ refused_with (read_tests v) → (n ≡ 0 → ⊥) → record { number = n; fac = no_fac } ≡ read_for v
   unfolding read_for announced
-  read_refused z r h = h ∙ rw (← e, ne_eqb n 0 z)
+  read_refused n e z = rw (← e, ne_eqb n 0 z)
 
-  pub read_done : n ≡ 0 → (f : Fac) → f ≡ fac_of v → record { number = 0; fac = f } ≡ read_for v
+  pub read_done : 0 ≡ refused_with (read_tests v) → (f : Fac) → f ≡ fac_of v → record { number = 0; fac = f } ≡ read_for v
   unfolding read_for announced
-  read_done z f h = rw (← e, z, h)
-
-pub ruleset answering = (read_refused, read_done)
+  read_done e f h = rw (← e, h)
 
 -- ---- write
 module _ (f : Fac) (room : ℕ) (t : Bool) (et : t ≡ is_too_large f) where
@@ -106,18 +103,19 @@ writable f room e =
     let p = first (is_too_large f) (not_served f) (ltb room 9) 5 8 0 e in
     (p.0, p.1, ltb-false _ _ p.2)
 
-pub ready : (f : Fac) (room n : ℕ) → n ≡ refused_with (write_tests f room) → n ≡ 0 → ChannelFits f × ServiceFits f × (9 ≤ room)
-ready f room n e z = let p = writable f room (sym e ∙ z) in (channel f p.0, service f p.0, p.2)
+pub ready : (f : Fac) (room : ℕ) → 0 ≡ refused_with (write_tests f room) → ChannelFits f × ServiceFits f × (9 ≤ room)
+ready f room e = let p = writable f room (sym e) in (channel f p.0, service f p.0, p.2)
 
-module _ (f : Fac) (out : List ℕ) (n : ℕ) (e : n ≡ refused_with (write_tests f (length out))) where
-  pub write_refused : (n ≡ 0 → ⊥) → (record { number = n; length = 0 } ≡ write_for f (length out)) × (out ≡ out_for f out)
+module _ (f : Fac) (out : List ℕ) where
+  pub write_refused : (n : ℕ) → n ≡ refused_with (write_tests f (length out)) → (n ≡ 0 → ⊥)
+      → (record { number = n; length = 0 } ≡ write_for f (length out)) × (out ≡ out_for f out)
   unfolding write_for out_for write_number
-  write_refused z = rw (← e, ne_eqb n 0 z) (refl, refl)
+  write_refused n e z = rw (← e, ne_eqb n 0 z) (refl, refl)
 
-  pub write_done : n ≡ 0 → (d : List ℕ) → d ≡ written out 0 (fac_bytes f)
+  pub write_done : 0 ≡ refused_with (write_tests f (length out)) → (d : List ℕ) → d ≡ written out 0 (fac_bytes f)
       → (record { number = 0; length = 9 } ≡ write_for f (length out)) × (d ≡ out_for f out)
   unfolding write_for out_for write_number
-  write_done z d h = rw (← e, z) (refl, h)
+  write_done e d h = rw (← e) (refl, h)
 
 -- ---- the nine bytes
 pub two_halves : (f : Fac) (a b : ℕ) → a ≡ number_of (take 10 widths) (take 10 (in_order f)) → b ≡ number_of (drop 10 widths) (drop 10 (in_order f))

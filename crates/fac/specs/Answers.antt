@@ -1,13 +1,14 @@
 -- What the calls answer (01, "Numbers given back"). Assumes nothing.
-use Rattle.std.specs.Prelude.{ℕ, not, List, [], ◌∷◌, eqb, ltb, length}
+use Rattle.std.specs.Prelude.{ℕ, not, List, [], ◌∷◌, Result, Ok, Err, eqb, ltb, length}
 use Rattle.laws.specs.Limits.{longest}
 use Rattle.laws.specs.Pick.{pick}
 use Rattle.laws.specs.Refuse.{Test, test, refused_with}
 use Rattle.laws.specs.Written.{written}
 use Rattle.fac.specs.declared.Fac.{Fac}
-use Rattle.fac.specs.declared.Announced.{Announced}
 use Rattle.moves.specs.declared.Wrote.{Wrote}
 use Rattle.moves.specs.Wrote.{wrote_of}
+use Rattle.refusal.specs.declared.Refusal.{Refusal}
+use Rattle.refusal.specs.Refusal.{number_of}
 use Rattle.fac.specs.Channel.{from_fields, fac_bytes, fac_of, sealed, is_too_large, not_served}
 
 -- ---- reading a value
@@ -22,6 +23,16 @@ read_tests value =
 -- all zeros: what a refused call gives
 abbrev pub no_fac : Fac
 no_fac = from_fields []
+
+-- the answer of a call that reads
+pub record Announced : Type 0 where
+  pub number : ℕ
+  pub fac : Fac
+
+-- what such an answer says
+abbrev pub announced_in : Result Fac Refusal → Announced
+announced_in (Ok f) = record { number = 0; fac = f }
+announced_in (Err r) = record { number = number_of r; fac = no_fac }
 
 unfoldable pub announced : ℕ → Fac → Announced
 announced n f = record { number = n; fac = pick (eqb n 0) f no_fac }

@@ -8,12 +8,14 @@ ghost use Rattle.laws.specs.Refuse.{refused_with};
 ghost use Rattle.laws.specs.Written.{written};
 ghost use Rattle.fac.specs.Bounds.{ChannelFits, ServiceFits};
 ghost use Rattle.fac.specs.Channel.{widths, in_order, fac_from, fac_bytes, fac_of, sealed, is_too_large, not_served};
-ghost use Rattle.fac.specs.Answers.{no_fac, read_tests, read_for, write_tests, write_for, out_for};
+ghost use Rattle.fac.specs.Answers.{read_tests, announced_in, read_for, write_tests, write_for, out_for};
+ghost use Rattle.moves.specs.Wrote.{wrote_in};
+ghost use Rattle.refusal.specs.Refusal.{number_in};
 
-use moves::Wrote;
+use refusal::Refusal;
 
 // The fields in the order of their bits.
-#[derive(Clone, Copy)]
+#[derive(Clone, Copy, Default, PartialEq, Eq)]
 pub struct Fac {
     pub base: u8,
     pub identity: u8,
@@ -33,13 +35,6 @@ pub struct Fac {
     pub descriptor: u8,
     pub data_ca: u8,
     pub reserved: u8,
-}
-
-// The answer of a call that reads: all zeros where it refuses.
-#[derive(Clone, Copy)]
-pub struct Announced {
-    pub number: u32,
-    pub fac: Fac,
 }
 
 // The fields of 64 bits: the widths are 1 2 1 3 1 2 1 4 3 2 24 2 1 4 1 5 1 6.
@@ -107,6 +102,7 @@ pub fn too_large(f: Fac) -> bool
 }
 
 // Whether the channel is one that 01 does not serve.
+#[tactic(auto, unfolding(crate::specs::Channel::not_served))]
 pub fn not_served(f: Fac) -> bool
     ensures { result ≡ not_served f }
 {
@@ -117,61 +113,31 @@ pub fn not_served(f: Fac) -> bool
         | ((f.services == 11) | (f.services == 14))
 }
 
-fn refused(number: u32) -> Announced
-    ensures { result ≡ record { number = number; fac = no_fac } }
-{
-    let fac = Fac {
-        base: 0,
-        identity: 0,
-        rm: 0,
-        occupancy: 0,
-        interleaver: 0,
-        msc: 0,
-        sdc: 0,
-        services: 0,
-        reconfiguration: 0,
-        channel: 0,
-        service: 0,
-        short: 0,
-        audio_ca: 0,
-        language: 0,
-        audio_data: 0,
-        descriptor: 0,
-        data_ca: 0,
-        reserved: 0,
-    };
-    Announced { number, fac }
-}
-
-// Why a value is not read; 0 where it is.
-fn read_number(value: &[u8]) -> u32
-    ensures { result ≡ refused_with (read_tests value.now) }
+// Why a value is not read.
+fn check_value(value: &[u8]) -> Result<(), Refusal>
+    ensures { number_in result ≡ refused_with (read_tests value.now) }
 {
     if 65528 < value.len() {
-        return 1;
+        return Err(Refusal::Size);
     }
     if value.len() != 9 {
-        return 5;
+        return Err(Refusal::ItemLength);
     }
     if !is_sealed(value) {
-        return 7;
+        return Err(Refusal::FacCrc);
     }
     if not_served(of_value(value)) {
-        return 9;
+        return Err(Refusal::NotServed);
     }
-    0
+    Ok(())
 }
 
 // Reads the value of a `fac_` item. Refused with 1 (over 65,528 bytes), 5 (not 9 bytes), 7 (CRC), 9 (not served).
-pub fn read(value: &[u8]) -> Announced
-    ensures { result ≡ read_for value.now }
+pub fn read(value: &[u8]) -> Result<Fac, Refusal>
+    ensures { announced_in result ≡ read_for value.now }
 {
-    let number = read_number(value);
-    if number != 0 {
-        return refused(number);
-    }
-    let fac = of_value(value);
-    Announced { number: 0, fac }
+    check_value(value)?;
+    Ok(of_value(value))
 }
 
 // The 20 channel bits of fields that fit.
@@ -216,35 +182,29 @@ fn put(f: Fac, out: &mut [u8])
     out[8] = crc::crc8(&out[0..8]);
 }
 
-// Why a record is not written to an output of so many bytes; 0 where it is.
-fn write_number(f: Fac, room: usize) -> u32
-    ensures { result ≡ refused_with (write_tests f room) }
+// Why a record is not written to an output of so many bytes.
+fn check_fac(f: Fac, room: usize) -> Result<(), Refusal>
+    ensures { number_in result ≡ refused_with (write_tests f room) }
 {
     if too_large(f) {
-        return 6;
+        return Err(Refusal::BadValue);
     }
     if not_served(f) {
-        return 9;
+        return Err(Refusal::NotServed);
     }
     if room < 9 {
-        return 1;
+        return Err(Refusal::Size);
     }
-    0
+    Ok(())
 }
 
-// Writes the value of a `fac_` item to the front of the output. Refused with 6 (a field too large for its bits), 9 (not served), last
-// with 1 (an output under 9 bytes).
-pub fn write(f: Fac, out: &mut [u8]) -> Wrote
-    ensures answer { result ≡ write_for f (length out.old) }
+// Writes the value of a `fac_` item to the front of the output, and answers its length. Refused with 6 (a field too large for its
+// bits), 9 (not served), last with 1 (an output under 9 bytes).
+pub fn write(f: Fac, out: &mut [u8]) -> Result<usize, Refusal>
+    ensures answer { wrote_in result ≡ write_for f (length out.old) }
     ensures memory { out.new ≡ out_for f out.old }
 {
-    let number = write_number(f, out.len());
-    if number != 0 {
-        return Wrote { number, length: 0 };
-    }
+    check_fac(f, out.len())?;
     put(f, out);
-    Wrote {
-        number: 0,
-        length: 9,
-    }
+    Ok(9)
 }

@@ -119,12 +119,14 @@ small_of r e =
 pub tested_of : (r : Record) (ss : Streams) → Fits r ss → Tested r
 tested_of r ss f = let s = small_of r f.fields in record { fits = s.fac; served = f.served; small = s.description; formed = f.formed }
 
-module _ (r : Record) (ss : Streams) (out : List ℕ) (n : ℕ) (e : n ≡ refused_with (write_tests r ss (length out))) where
-  pub write_refused : (n ≡ 0 → ⊥) → (record { number = n; length = 0 } ≡ write_for r ss (length out)) × (out ≡ out_for r ss out)
+module _ (r : Record) (ss : Streams) (out : List ℕ) where
+  pub write_refused : (n : ℕ) → n ≡ refused_with (write_tests r ss (length out)) → (n ≡ 0 → ⊥)
+      → (record { number = n; length = 0 } ≡ write_for r ss (length out)) × (out ≡ out_for r ss out)
   unfolding write_for out_for write_number
-  write_refused z = rw (← e, ne_eqb n 0 z) (refl, refl)
+  write_refused n e z = rw (← e, ne_eqb n 0 z) (refl, refl)
 
-  pub write_done : n ≡ 0 → (k : ℕ) (d : List ℕ) → (k ≡ length (packet_of r ss)) × (d ≡ written out 0 (packet_of r ss))
+  pub write_done : 0 ≡ refused_with (write_tests r ss (length out)) → (k : ℕ) (d : List ℕ)
+      → (k ≡ length (packet_of r ss)) × (d ≡ written out 0 (packet_of r ss))
       → (record { number = 0; length = k } ≡ write_for r ss (length out)) × (d ≡ out_for r ss out)
   unfolding write_for out_for write_number
-  write_done z k d h = rw (← e, z) (ap (λ (m : ℕ). record { number = 0; length = m }) h.0, h.1)
+  write_done e k d h = rw (← e) (ap (λ (m : ℕ). record { number = 0; length = m }) h.0, h.1)

@@ -5,15 +5,18 @@ use mathlib.Core.Path.{◌≡◌}
 use mathlib.Core.List.{List}
 use lib.ListN.{length}
 use Rattle.laws.specs.Settle.{Settles}
-use Rattle.laws.proofs.Settle.{settled_both}
 use Rattle.mdi_write.specs.Answers.{out_for, write_for}
 use Rattle.record.specs.declared.Record.{Record}
-use Rattle.moves.specs.declared.Wrote.{Wrote}
+use Rattle.moves.specs.Wrote.{wrote_in}
+use Rattle.moves.proofs.Told.{wrote_tells}
+use Rattle.refusal.specs.declared.Refusal.{Refusal}
+use Rattle.refusal.proofs.Told.{settled_told_both}
+use Rattle.std.specs.Prelude.{Result}
 use Rattle.mdi_write.specs.Packet.{four}
 
-pub write : Settles (λ (i : Record × List ℕ × List ℕ × List ℕ × List ℕ × List ℕ) (o : Wrote × List ℕ).
-    (o.0 ≡ write_for i.0 (four i.1 i.2 i.3 i.4) (length i.5))
+pub write : Settles (λ (i : Record × List ℕ × List ℕ × List ℕ × List ℕ × List ℕ) (o : Result ℕ Refusal × List ℕ).
+    (wrote_in o.0 ≡ write_for i.0 (four i.1 i.2 i.3 i.4) (length i.5))
     × (o.1 ≡ out_for i.0 (four i.1 i.2 i.3 i.4) i.5))
 write =
-    settled_both (λ i. write_for i.0 (four i.1 i.2 i.3 i.4) (length i.5))
+    settled_told_both wrote_tells (λ i. write_for i.0 (four i.1 i.2 i.3 i.4) (length i.5))
     (λ i. out_for i.0 (four i.1 i.2 i.3 i.4) i.5)

@@ -15,11 +15,13 @@ ghost use Rattle.fac.specs.Channel.{fac_bytes};
 ghost use Rattle.sdc.specs.Block.{sdc_bytes};
 ghost use Rattle.mdi_spots.specs.Table.{name_of};
 ghost use Rattle.mdi_spots.specs.Streams.{filled};
+ghost use Rattle.moves.specs.Wrote.{wrote_in};
+ghost use Rattle.refusal.specs.Refusal.{number_in};
 ghost use Rattle.mdi_write.specs.Packet.{four, time_bytes, head_values, stream_values};
 ghost use Rattle.mdi_write.specs.Rows.{all_names, wire, wire_size, laid, size_for, Tested};
 ghost use Rattle.mdi_write.specs.Answers.{any_long, bad_time, is_too_large, write_tests, write_for, out_for};
 
-use moves::Wrote;
+use refusal::Refusal;
 
 // The bytes of an item with a value of n bytes: an empty one is left out.
 fn item_size(n: usize) -> usize
@@ -61,7 +63,7 @@ fn put_fac(names: &[u8], f: fac::Fac, out: &mut [u8], at: usize) -> usize
     ensures out_after { out.new ≡ written out.old at (wire (name_of 2) (fac_bytes f)) }
 {
     let mut value = [0u8; 9];
-    fac::write(f, &mut value);
+    let _ = fac::write(f, &mut value);
     put_item(names, mdi_spots::FAC, &value, out, at)
 }
 
@@ -238,52 +240,63 @@ fn packet_size(r: record::Record, n0: usize, n1: usize, n2: usize, n3: usize) ->
     head + item_size(n0) + item_size(n1) + item_size(n2) + item_size(n3) + time_size(t)
 }
 
-// Why the packet is not written to an output of so many bytes; 0 where it is.
-fn write_number(r: record::Record, s0: &[u8], s1: &[u8], s2: &[u8], s3: &[u8], room: usize) -> u32
-    ensures { result ≡ refused_with (write_tests r (four s0.now s1.now s2.now s3.now) room) }
+// Why the packet is not written to an output of so many bytes.
+fn check_packet(
+    r: record::Record,
+    s0: &[u8],
+    s1: &[u8],
+    s2: &[u8],
+    s3: &[u8],
+    room: usize,
+) -> Result<(), Refusal>
+    ensures { number_in result ≡ refused_with (write_tests r (four s0.now s1.now s2.now s3.now) room) }
 {
     let f = r.fac;
     let s = r.sdc;
     let d = r.description;
     if is_long(s0.len(), s1.len(), s2.len(), s3.len()) {
-        return 1;
+        return Err(Refusal::Size);
     }
     if sdc::over_long(s) {
-        return 5;
+        return Err(Refusal::ItemLength);
     }
     if is_large(r) {
-        return 6;
+        return Err(Refusal::BadValue);
     }
     if fac::not_served(f) {
-        return 9;
+        return Err(Refusal::NotServed);
     }
     if description::ill_formed(d, f.msc) {
-        return 10;
+        return Err(Refusal::IllFormed);
     }
     if !is_agreed(d, s0.len(), s1.len(), s2.len(), s3.len()) {
-        return 11;
+        return Err(Refusal::StreamLength);
     }
     if room < packet_size(r, s0.len(), s1.len(), s2.len(), s3.len()) {
-        return 1;
+        return Err(Refusal::Size);
     }
-    0
+    Ok(())
 }
 
-// Writes the packet to the front of the output. Refused with 1 (a stream over 65,528 bytes), 5 (over 1,024 SDC bytes), 6 (a field too
-// large), 9 (the FAC is not served), 10 (the description is not well formed), 11 (a stream of another length than it says), last with
-// 1 (an output too short).
-pub fn write(r: record::Record, s0: &[u8], s1: &[u8], s2: &[u8], s3: &[u8], out: &mut [u8]) -> Wrote
-    ensures answer { result ≡ write_for r (four s0.now s1.now s2.now s3.now) (length out.old) }
+// Writes the packet to the front of the output, and answers its length. Refused with 1 (a stream over 65,528 bytes), 5 (over 1,024 SDC
+// bytes), 6 (a field too large), 9 (the FAC is not served), 10 (the description is not well formed), 11 (a stream of another length than
+// it says), last with 1 (an output too short).
+pub fn write(
+    r: record::Record,
+    s0: &[u8],
+    s1: &[u8],
+    s2: &[u8],
+    s3: &[u8],
+    out: &mut [u8],
+) -> Result<usize, Refusal>
+    ensures answer { wrote_in result ≡ write_for r (four s0.now s1.now s2.now s3.now) (length out.old) }
     ensures memory { out.new ≡ out_for r (four s0.now s1.now s2.now s3.now) out.old }
 {
-    let number = write_number(r, s0, s1, s2, s3, out.len());
-    if number != 0 {
-        return Wrote { number, length: 0 };
-    }
+    check_packet(r, s0, s1, s2, s3, out.len())?;
     let t = r.time;
     let names = mdi_spots::NAMES;
     let a = put_head(&names, r, out);
     let b = put_streams(&names, s0, s1, s2, s3, out, a);
     let length = put_time(&names, t, out, b);
-    Wrote { number: 0, length }
+    Ok(length)
 }

@@ -21,6 +21,9 @@ use Rattle.mdi.specs.declared.Answer.{Answer}
 use Rattle.mdi_write.specs.Answers.{write_for, out_for}
 use Rattle.mdi_write.specs.Packet.{Streams}
 use Rattle.moves.specs.declared.Wrote.{Wrote}
+use Rattle.moves.specs.Wrote.{wrote_in}
+use Rattle.refusal.specs.declared.Refusal.{Refusal}
+use Rattle.std.specs.Prelude.{Result}
 use Rattle.meter.specs.declared.Seen.{Seen}
 use Rattle.meter.specs.Seen.{seen_in, record_for, wrote_for}
 
@@ -36,8 +39,8 @@ unfolding record_for
 made_is count mode A B C D f s x o t q1 q2 q3 q4 q5 = rw (q1, q2, q3, q5, q4) refl
 
 module _ (r R : Record) (e : r ≡ R) (ss : Streams) where
-  pub wrote_is : (room : ℕ) (w : Wrote) → w ≡ write_for r ss room → w.number ≡ wrote_for R ss room
-  wrote_is room w q = ap (λ (y : Wrote). y.number) (q ∙ ap (λ (y : Record). write_for y ss room) e)
+  pub wrote_is : (room : ℕ) (x : Result ℕ Refusal) → wrote_in x ≡ write_for r ss room → (wrote_in x).number ≡ wrote_for R ss room
+  wrote_is room x q = ap (λ (y : Wrote). y.number) (q ∙ ap (λ (y : Record). write_for y ss room) e)
 
   pub out_is : (out after : List ℕ) → after ≡ out_for r ss out → after ≡ out_for R ss out
   out_is out after q = q ∙ ap (λ (y : Record). out_for y ss out) e

@@ -124,6 +124,8 @@ pub extern "C" fn meter_mdi_write(
     ensures memory { out.new ≡ out_for (record_for count fac.now sdc.now sdci.now robustness tist.now) (four s0.now s1.now s2.now s3.now) out.old }
 {
     let r = record_of(count, fac, sdc, sdci, robustness, tist);
-    let w = mdi_write::write(r, s0, s1, s2, s3, out);
-    w.number
+    match mdi_write::write(r, s0, s1, s2, s3, out) {
+        Ok(_) => 0,
+        Err(why) => why.number(),
+    }
 }

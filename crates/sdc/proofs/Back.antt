@@ -1,6 +1,7 @@
 -- The block to the bytes of its value and back, both ways. Assumes nothing.
 use Prim.Native.Nat.{ℕ, zero, suc, ◌+◌, ◌-◌, ◌%◌, ◌^◌, ◌≤◌, ◌<◌}
 use mathlib.Core.Bool.{Bool, true, false, not, ◌&&◌, ◌||◌}
+use Rattle.std.specs.Prelude.{Option, None, Some}
 use mathlib.Core.Logic.{◌⊎◌, inl, inr}
 use mathlib.Core.Path.{◌≡◌, refl, sym, ap, ap₂, ◌∙◌}
 use mathlib.Core.List.{List, [], ◌∷◌, ◌++◌}
@@ -17,7 +18,6 @@ use Rattle.laws.proofs.Flags.{and_l, and_r, or_false}
 use Rattle.fields.proofs.Reading.{number_in}
 use Rattle.crc.specs.Crc.{crc_of}
 use Rattle.sdc.specs.declared.Head.{Head}
-use Rattle.sdc.specs.declared.Head.TheVariants.{Absent, Given}
 use Rattle.sdc.specs.declared.Sdc.{Sdc}
 use Rattle.sdc.specs.Block.{most, capped, padded, no_sdc, data_in, sdc_of, sealed, sealed16, block_bytes, sdc_bytes, size_of, afs_of, over_long, blank, is_too_large}
 use Rattle.sdc.proofs.Ways.{data_length}
@@ -104,12 +104,12 @@ module _ (afs size : ℕ) (body : List ℕ) (l : length body ≡ 1024) (m : size
   filled : length (sealed16 (afs ∷ take size body)) ≡ 0 → ⊥
   filled e = let k = given_length in omega arith
 
-  given_back : afs ≤ 15 → blank (drop size body) ≡ true → sdc_of (sealed16 (afs ∷ take size body)) ≡ record { head = Given afs size; body = body }
+  given_back : afs ≤ 15 → blank (drop size body) ≡ true → sdc_of (sealed16 (afs ∷ take size body)) ≡ record { head = Some (record { afs = afs; size = size }); body = body }
   unfolding sdc_of
   given_back a z =
       rw (ne_eqb _ _ filled)
-      (ap₂ (λ (p q : ℕ). record { head = Given p q; body = padded (data_in (sealed16 (afs ∷ take size body))) }) (first a) given_cap
-      ∙ ap (λ (t : List ℕ). record { head = Given afs size; body = t }) (ap padded given_data ∙ given_body z))
+      (ap₂ (λ (p q : ℕ). record { head = Some (record { afs = p; size = q }); body = padded (data_in (sealed16 (afs ∷ take size body))) }) (first a) given_cap
+      ∙ ap (λ (t : List ℕ). record { head = Some (record { afs = afs; size = size }); body = t }) (ap padded given_data ∙ given_body z))
 
   small : afs ≤ 15 → ltb (get_or (sealed16 (afs ∷ take size body)) 0 0) 16 ≡ true
   unfolding sealed16
@@ -126,35 +126,35 @@ module _ (afs size : ℕ) (body : List ℕ) (l : length body ≡ 1024) (m : size
       ap (number_at 2 (sealed16 s)) k ∙ check_back s ∙ ap (crc_of 16 0x1021) (sym (ap (λ (n : ℕ). take n (sealed16 s)) k ∙ plain_back s)) in
       rw (ne_eqb _ _ filled, le-leb _ _ h, small a) (eq-eqb _ _ e)
 
-none_back : (body : List ℕ) → length body ≡ 1024 → blank body ≡ true → sdc_of [] ≡ record { head = Absent; body = body }
+none_back : (body : List ℕ) → length body ≡ 1024 → blank body ≡ true → sdc_of [] ≡ record { head = None; body = body }
 unfolding sdc_of
-none_back body l z = ap (λ (t : List ℕ). record { head = Absent; body = t }) (sym (blank_is body z ∙ ap (λ (n : ℕ). replicate {A = ℕ} n 0) l))
+none_back body l z = ap (λ (t : List ℕ). record { head = None; body = t }) (sym (blank_is body z ∙ ap (λ (n : ℕ). replicate {A = ℕ} n 0) l))
 
 -- by the head
-back_for : (h : Head) (body : List ℕ) → length body ≡ 1024 → ltb most (size_of h) ≡ false → (ltb 15 (afs_of h) || not (blank (drop (size_of h) body))) ≡ false
+back_for : (h : Option Head) (body : List ℕ) → length body ≡ 1024 → ltb most (size_of h) ≡ false → (ltb 15 (afs_of h) || not (blank (drop (size_of h) body))) ≡ false
     → sdc_of (block_bytes h body) ≡ record { head = h; body = body }
 unfolding block_bytes size_of afs_of
-back_for Absent body l o t = none_back body l (not-false _ t)
-back_for (Given afs size) body l o t =
-    let p = or_false (ltb 15 afs) (not (blank (drop size body))) t in
-    given_back afs size body l (ltb-false _ _ o) (ltb-false _ _ p.0) (not-false _ p.1)
+back_for None body l o t = none_back body l (not-false _ t)
+back_for (Some h) body l o t =
+    let p = or_false (ltb 15 h.afs) (not (blank (drop h.size body))) t in
+    given_back h.afs h.size body l (ltb-false _ _ o) (ltb-false _ _ p.0) (not-false _ p.1)
 
-sealed_for : (h : Head) (body : List ℕ) → length body ≡ 1024 → ltb most (size_of h) ≡ false → (ltb 15 (afs_of h) || not (blank (drop (size_of h) body))) ≡ false
+sealed_for : (h : Option Head) (body : List ℕ) → length body ≡ 1024 → ltb most (size_of h) ≡ false → (ltb 15 (afs_of h) || not (blank (drop (size_of h) body))) ≡ false
     → sealed (block_bytes h body) ≡ true
 unfolding block_bytes size_of afs_of sealed
-sealed_for Absent body l o t = refl
-sealed_for (Given afs size) body l o t =
-    let p = or_false (ltb 15 afs) (not (blank (drop size body))) t in
-    given_sealed afs size body l (ltb-false _ _ o) (ltb-false _ _ p.0)
+sealed_for None body l o t = refl
+sealed_for (Some h) body l o t =
+    let p = or_false (ltb 15 h.afs) (not (blank (drop h.size body))) t in
+    given_sealed h.afs h.size body l (ltb-false _ _ o) (ltb-false _ _ p.0)
 
 -- 0 or 3 to 1,027 bytes
-length_for : (h : Head) (body : List ℕ) → length body ≡ 1024 → ltb most (size_of h) ≡ false
+length_for : (h : Option Head) (body : List ℕ) → length body ≡ 1024 → ltb most (size_of h) ≡ false
     → (length (block_bytes h body) ≡ 0) ⊎ ((3 ≤ length (block_bytes h body)) × (length (block_bytes h body) ≤ 1027))
 unfolding block_bytes size_of
-length_for Absent body l o = inl refl
-length_for (Given afs size) body l o =
-    let m : size ≤ 1024 = ltb-false _ _ o in
-    let g = given_length afs size body l m in
+length_for None body l o = inl refl
+length_for (Some h) body l o =
+    let m : h.size ≤ 1024 = ltb-false _ _ o in
+    let g = given_length h.afs h.size body l m in
     inr (omega arith, omega arith)
 
 -- ---- read, what was written
@@ -188,7 +188,7 @@ padded_blank : (d : List ℕ) (n : ℕ) → length d ≡ n → blank (drop n (pa
 unfolding padded
 padded_blank d n l = ap blank (drop_at d (replicate {A = ℕ} (most - length d) 0) n l) ∙ zeros_blank (most - length d)
 
-given_whole : (v : List ℕ) → Whole (record { head = Given (get_or v 0 0 % 16) (capped (length v - 3)); body = padded (data_in v) })
+given_whole : (v : List ℕ) → Whole (record { head = Some (record { afs = get_or v 0 0 % 16; size = capped (length v - 3) }); body = padded (data_in v) })
 unfolding over_long is_too_large size_of afs_of
 given_whole v =
     let n = capped (length v - 3) in
@@ -209,7 +209,7 @@ pub read_whole : (v : List ℕ) → Whole (sdc_of v)
 unfolding sdc_of
 read_whole v = go (eqb (length v) 0)
   where
-    go : (b : Bool) → Whole (pick b no_sdc (record { head = Given (get_or v 0 0 % 16) (capped (length v - 3)); body = padded (data_in v) }))
+    go : (b : Bool) → Whole (pick b no_sdc (record { head = Some (record { afs = get_or v 0 0 % 16; size = capped (length v - 3) }); body = padded (data_in v) }))
     go true = none_whole
     go false = given_whole v
 

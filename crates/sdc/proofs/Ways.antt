@@ -1,12 +1,12 @@
 -- What the questions and the reader answer, by the way taken through their tests. Assumes nothing.
-use Prim.Native.Nat.{ℕ, zero, suc, ◌+◌, ◌-◌, ◌%◌, ◌≤◌, ◌<◌}
-use mathlib.Core.Bool.{Bool, true, false, not, ◌&&◌, ◌||◌, and-true, and_assoc}
+use Prim.Native.Nat.{ℕ, zero, suc, min, ◌+◌, ◌-◌, ◌%◌, ◌≤◌, ◌<◌}
+use mathlib.Core.Bool.{Bool, true, false, not, ◌&&◌, and-true, and_assoc}
 use mathlib.Core.Path.{◌≡◌, refl, sym, ap, ap₂, ◌∙◌}
 use mathlib.Core.List.{List, ◌++◌}
 use native.Mathlib.Nat.{add-sub_cancel_left}
 use native.Mathlib.Numerals.{add-one}
 use native.Mathlib.Omega.{arith}
-use borrow.Author.Tests.{lt-ltb, le-ltb, le-leb, lt-leb, eq-eqb, ne_eqb, ltb-true}
+use borrow.Author.Tests.{lt-ltb, le-ltb, le-leb, lt-leb, eq-eqb, ne_eqb, ltb-true, ltb-false}
 use lib.Dec.{ltb, eqb}
 use lib.ListN.{length, get_or, take, drop, replicate, length-drop, length-replicate, drop_of_length-le}
 use lib.Seq.{drop-cons, length-take-le}
@@ -16,20 +16,18 @@ use Rattle.laws.specs.Written.{written}
 use Rattle.moves.specs.Moves.{placed}
 use Rattle.moves.proofs.Turns.{placed_is}
 use Rattle.crc.specs.Crc.{crc_of}
+use Rattle.std.specs.Prelude.{Option, None, Some, MatchOption}
 use Rattle.sdc.specs.declared.Head.{Head}
-use Rattle.sdc.specs.declared.Head.TheVariants.{Absent, Given}
 use Rattle.sdc.specs.declared.Sdc.{Sdc}
 use Rattle.sdc.specs.Block.{capped, padded, no_sdc, data_in, sdc_of, sealed, size_of, afs_of, over_long, blank, is_too_large}
 
 -- ---- at most 1,024
-pub cap_over : (n : ℕ) → 1024 < n → (1024 ≡ capped n) × (1024 ≤ 1024) × (1024 ≤ n)
-cap_over n h = rw (lt-ltb _ _ h) (refl, omega arith, omega arith)
-
-pub cap_under : (n : ℕ) → n ≤ 1024 → (n ≡ capped n) × (n ≤ 1024) × (n ≤ n)
-cap_under n h = rw (le-ltb _ _ h) (refl, h, omega arith)
-
-pub data_none : (n : ℕ) → n < 3 → (0 ≡ capped (n - 3)) × (0 ≤ 1024) × (0 ≤ n - 3)
-data_none n h = let e : n - 3 ≡ 0 = omega arith in rw e (refl, omega arith, omega arith)
+pub least_is : (n : ℕ) → min n 1024 ≡ capped n
+least_is n = go (ltb 1024 n) refl
+  where
+    go : (b : Bool) → ltb 1024 n ≡ b → min n 1024 ≡ pick b 1024 n
+    go true e = let h : 1024 < n = ltb-true _ _ e in omega arith
+    go false e = let h : n ≤ 1024 = ltb-false _ _ e in omega arith
 
 -- ---- zeros from an index on
 pub blank_more : (s : List ℕ) (all b : Bool) (i : ℕ) → i < length s → (all && blank (drop i s)) ≡ b → ((all && eqb (get_or s i 0) 0) && blank (drop (i + 1) s)) ≡ b
@@ -43,29 +41,27 @@ unfolding blank
 blank_done s all b i h e = sym (and-true all) ∙ ap (λ (l : List ℕ). all && blank l) (sym (drop_of_length-le s h)) ∙ e
 
 -- ---- what a head says
-pub size_none : (h : Head) → h ≡ Absent → 0 ≡ size_of h
-unfolding size_of
-size_none h e = rw e refl
+module _ (h : Option Head) (P : Head → Type 0) (r : ℕ) (m : MatchOption h (r ≡ 0) P) where
+  pub size_by : ((x : Head) → P x → r ≡ x.size) → r ≡ size_of h
+  unfolding size_of
+  size_by f = elim h as (λ o. MatchOption o (r ≡ 0) P → r ≡ size_of o) [ None ↦ λ e. e | Some x ↦ λ e. f x e ] m
 
-pub size_some : (h : Head) (a n : ℕ) → h ≡ Given a n → n ≡ size_of h
-unfolding size_of
-size_some h a n e = rw e refl
-
-pub afs_none : (h : Head) → h ≡ Absent → 0 ≡ afs_of h
-unfolding afs_of
-afs_none h e = rw e refl
-
-pub afs_some : (h : Head) (a n : ℕ) → h ≡ Given a n → a ≡ afs_of h
-unfolding afs_of
-afs_some h a n e = rw e refl
+  pub afs_by : ((x : Head) → P x → r ≡ x.afs) → r ≡ afs_of h
+  unfolding afs_of
+  afs_by f = elim h as (λ o. MatchOption o (r ≡ 0) P → r ≡ afs_of o) [ None ↦ λ e. e | Some x ↦ λ e. f x e ] m
 
 pub long_is : (s : Sdc) (n : ℕ) → n ≡ size_of s.head → ltb 1024 n ≡ over_long s
 unfolding over_long
 long_is s n e = rw e
 
-pub large_is : (s : Sdc) (a n : ℕ) (b : Bool) → a ≡ afs_of s.head → n ≡ size_of s.head → b ≡ blank (drop n s.body) → (ltb 15 a || not b) ≡ is_too_large s
-unfolding is_too_large
-large_is s a n b ea en eb = simp (ea, eb, en)
+module _ (s : Sdc) (a : ℕ) (ea : a ≡ afs_of s.head) where
+  pub large_afs : 15 < a → ltb 15 a ≡ is_too_large s
+  unfolding is_too_large
+  large_afs h = rw (← ea, lt-ltb _ _ h)
+
+  pub large_rest : a ≤ 15 → (n : ℕ) (b : Bool) → n ≡ size_of s.head → b ≡ blank (drop n s.body) → not b ≡ is_too_large s
+  unfolding is_too_large
+  large_rest h n b en eb = rw (← ea, le-ltb _ _ h, eb, en)
 
 -- ---- the seal
 module _ (v : List ℕ) where
@@ -114,12 +110,13 @@ pub of_none : (v : List ℕ) (r : Sdc) → length v ≡ 0 → r ≡ no_sdc → r
 unfolding sdc_of
 of_none v r h e = e ∙ rw (eq-eqb _ _ h)
 
-pub of_some : (v b : List ℕ) (n : ℕ) → (length v ≡ 0 → ⊥) → (n ≡ capped (length v - 3)) × (n ≤ 1024) × (n ≤ length v - 3)
-    → b ≡ placed (replicate 1024 0) 0 (take (1 + n - 1) (drop 1 v)) → record { head = Given (get_or v 0 0 % 16) n; body = b } ≡ sdc_of v
+pub of_some : (v b : List ℕ) (m n : ℕ) → (length v ≡ 0 → ⊥) → m ≡ length v - 3 → n ≡ min m 1024
+    → b ≡ placed (replicate 1024 0) 0 (take (1 + n - 1) (drop 1 v)) → record { head = Some (record { afs = get_or v 0 0 % 16; size = n }); body = b } ≡ sdc_of v
 unfolding sdc_of data_in
-of_some v b n z e q =
-    let k : 1 + n - 1 ≡ capped (length v - 3) = add-sub_cancel_left 1 n ∙ e.0 in
-    let l : length (data_in v) ≡ n = data_length v ∙ sym e.0 in
-    let h : length (data_in v) ≤ 1024 = let m = e.1 in omega arith in
+of_some v b m n z em en q =
+    let c : n ≡ capped (length v - 3) = en ∙ ap (λ (k : ℕ). min k 1024) em ∙ least_is (length v - 3) in
+    let k : 1 + n - 1 ≡ capped (length v - 3) = add-sub_cancel_left 1 n ∙ c in
+    let l : length (data_in v) ≡ n = data_length v ∙ sym c in
+    let h : length (data_in v) ≤ 1024 = omega arith in
     let p : b ≡ padded (data_in v) = q ∙ ap (λ (j : ℕ). placed (replicate 1024 0) 0 (take j (drop 1 v))) k ∙ padded_is (data_in v) h in
-    rw (ne_eqb _ _ z) (ap₂ (λ (m : ℕ) (c : List ℕ). record { head = Given (get_or v 0 0 % 16) m; body = c }) e.0 p)
+    rw (ne_eqb _ _ z) (ap₂ (λ (i : ℕ) (t : List ℕ). record { head = Some (record { afs = get_or v 0 0 % 16; size = i }); body = t }) c p)

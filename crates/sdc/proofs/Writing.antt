@@ -1,11 +1,11 @@
 -- The value of a block written at an offset: its stores one behind the other. Assumes nothing.
-use Prim.Native.Nat.{ℕ, ◌+◌, ◌-◌, ◌≤◌, ◌<◌}
+use Prim.Native.Nat.{ℕ, min, ◌+◌, ◌-◌, ◌≤◌, ◌<◌}
 use mathlib.Core.Bool.{Bool, true, false}
 use mathlib.Core.Path.{◌≡◌, refl, sym, ap, ◌∙◌}
 use mathlib.Core.List.{List, [], ◌∷◌, ◌++◌}
 use native.Mathlib.Omega.{arith}
-use borrow.Author.Tests.{ltb-true}
-use lib.Dec.{ltb}
+use borrow.Author.Tests.{ltb-true, ltb-false, lt-leb}
+use lib.Dec.{ltb, leb}
 use lib.ListN.{length, take, drop, set, length-append, length-set}
 use lib.Seq.{take_at, drop_at, take_all, length-take-le}
 use Rattle.laws.specs.Big.{bytes_of}
@@ -16,11 +16,12 @@ use Rattle.laws.proofs.Written.{set_written, write_next, written_length, written
 use Rattle.fields.specs.Numbers.{put_at}
 use Rattle.fields.proofs.Writing.{put_in}
 use Rattle.moves.specs.Moves.{placed}
-use Rattle.moves.proofs.Turns.{placed_is, short, outside}
+use Rattle.moves.proofs.Turns.{placed_is}
 use Rattle.crc.specs.Crc.{crc_of}
-use Rattle.sdc.specs.declared.Head.TheVariants.{Absent, Given}
+use Rattle.std.specs.Prelude.{Option, None, Some, MatchOption}
+use Rattle.sdc.specs.declared.Head.{Head}
 use Rattle.sdc.specs.declared.Sdc.{Sdc}
-use Rattle.sdc.specs.Block.{most, capped, sealed16, block_bytes, sdc_bytes}
+use Rattle.sdc.specs.Block.{sealed16, block_bytes, sdc_bytes}
 
 pub sealed_length : (s : List ℕ) → length (sealed16 s) ≡ length s + 2
 unfolding sealed16
@@ -49,57 +50,58 @@ module _ (afs : ℕ) (d out : List ℕ) (at : ℕ) where
       ∙ write_next out e at s (bytes_of 2 w) end (omega arith) (omega arith) qe
       ∙ ap (λ (v : ℕ). written out at (s ++ bytes_of 2 v)) (qw ∙ ap (crc_of 16 0x1021) t)
 
-  block_length : length (sealed16 (afs ∷ d)) ≡ length d + 3
-  block_length = sealed_length (afs ∷ d) ∙ omega arith
-
-  pub block_short : length out < length d + 3 → out ≡ placed out at (sealed16 (afs ∷ d))
-  block_short h = short out at (sealed16 (afs ∷ d)) (length d + 3) block_length h
-
-  pub block_outside : length d + 3 ≤ length out → length out - (length d + 3) < at → out ≡ placed out at (sealed16 (afs ∷ d))
-  block_outside h k = outside out at (sealed16 (afs ∷ d)) (length d + 3) block_length h k
-
-  pub block_in : length d + 3 ≤ length out → at ≤ length out - (length d + 3) → (e : List ℕ) → e ≡ written out at (sealed16 (afs ∷ d))
-      → e ≡ placed out at (sealed16 (afs ∷ d))
-  block_in h k e q = let l = block_length in q ∙ sym (placed_is out at (sealed16 (afs ∷ d)) (omega arith))
-
 -- no more bytes than the body has
-pub take_capped : (body : List ℕ) (n : ℕ) → length body ≡ 1024 → take (capped n) body ≡ take n body
-take_capped body n l = go (ltb most n) refl
+take_least : (body : List ℕ) (n size : ℕ) → length body ≡ 1024 → n ≡ min size 1024 → take n body ≡ take size body
+take_least body n size l e = go (ltb 1024 size) refl
   where
-    go : (b : Bool) → ltb most n ≡ b → take (pick b most n) body ≡ take n body
-    go true e = let h : most < n = ltb-true _ _ e in take_all most body (omega arith) ∙ sym (take_all n body (omega arith))
-    go false e = refl
+    go : (b : Bool) → ltb 1024 size ≡ b → take n body ≡ take size body
+    go true q = let h : 1024 < size = ltb-true _ _ q in take_all n body (omega arith) ∙ sym (take_all size body (omega arith))
+    go false q = let h : size ≤ 1024 = ltb-false _ _ q in ap (λ (k : ℕ). take k body) (omega arith)
 
+-- ---- a block's value, by its head
 module _ (s : Sdc) where
-  pub length_none : s.head ≡ Absent → (0 ≡ length (sdc_bytes s)) × (0 ≤ 1027)
+  pub length_none : (r : ℕ) → s.head ≡ None → r ≡ 0 → (r ≡ length (sdc_bytes s)) × (r ≤ 1027)
   unfolding sdc_bytes block_bytes
-  length_none e = (rw e refl, omega arith)
+  length_none r e q = (q ∙ rw e refl, omega arith)
 
-  pub length_given : (afs size n : ℕ) → s.head ≡ Given afs size → length s.body ≡ 1024 → (n ≡ capped size) × (n ≤ 1024) × (n ≤ size) → (n + 3 ≡ length (sdc_bytes s)) × (n + 3 ≤ 1027)
-  unfolding sdc_bytes block_bytes
-  length_given afs size n e l q =
-      let t : length (take size s.body) ≡ n =
-      sym (ap length (take_capped s.body size l))
-      ∙ ap (λ (k : ℕ). length (take k s.body)) (sym q.0)
-      ∙ length-take-le n s.body (let h = q.1 in omega arith) in
-      (rw e (sym (sealed_length (afs ∷ take size s.body) ∙ (let h = t in omega arith))), (let h = q.1 in omega arith))
+  module _ (h : Head) (n : ℕ) (e : s.head ≡ Some h) (l : length s.body ≡ 1024) (q : n ≡ min h.size 1024) where
+    abbrev value : List ℕ
+    value = sealed16 (h.afs ∷ take n s.body)
 
-  module _ (out : List ℕ) (at : ℕ) where
-    pub put_none : s.head ≡ Absent → out ≡ placed out at (sdc_bytes s)
-    unfolding sdc_bytes block_bytes placed
-    put_none e = rw e (go (lib.Dec.leb (at + 0) (length out)))
-      where
-        go : (b : Bool) → out ≡ pick b (written out at []) out
-        go true = sym (written_none out at)
-        go false = refl
-
-    pub put_given : (afs size : ℕ) (e : List ℕ) → s.head ≡ Given afs size → e ≡ placed out at (sealed16 (afs ∷ take size s.body)) → e ≡ placed out at (sdc_bytes s)
+    pub value_is : value ≡ sdc_bytes s
     unfolding sdc_bytes block_bytes
-    put_given afs size e h p = p ∙ rw h
+    value_is = rw e (ap (λ (t : List ℕ). sealed16 (h.afs ∷ t)) (take_least s.body n h.size l q))
 
-module _ (afs size : ℕ) (body out e : List ℕ) (at : ℕ) where
-  pub first_all : length body < size → e ≡ placed out at (sealed16 (afs ∷ body)) → e ≡ placed out at (sealed16 (afs ∷ take size body))
-  first_all h q = q ∙ ap (λ (t : List ℕ). placed out at (sealed16 (afs ∷ t))) (sym (take_all size body (omega arith)))
+    size_is : length (sdc_bytes s) ≡ n + 3
+    size_is =
+        let t : length (take n s.body) ≡ n = length-take-le n s.body (omega arith) in
+        sym (ap length value_is) ∙ sealed_length (h.afs ∷ take n s.body) ∙ omega arith
 
-  pub first_part : e ≡ placed out at (sealed16 (afs ∷ take (size - 0) body)) → e ≡ placed out at (sealed16 (afs ∷ take size body))
-  first_part q = let z : size - 0 ≡ size = omega arith in q ∙ ap (λ (k : ℕ). placed out at (sealed16 (afs ∷ take k body))) z
+    pub length_given : (n + 3 ≡ length (sdc_bytes s)) × (n + 3 ≤ 1027)
+    length_given = (sym size_is, omega arith)
+
+    module _ (out : List ℕ) (at : ℕ) where
+      pub put_fits : at + (n + 3) ≤ length out → (d : List ℕ) → d ≡ written out at value → d ≡ placed out at (sdc_bytes s)
+      put_fits room d w =
+          let z = size_is in
+          w ∙ ap (written out at) value_is ∙ sym (placed_is out at (sdc_bytes s) (omega arith))
+
+      pub put_out : length out < at + (n + 3) → out ≡ placed out at (sdc_bytes s)
+      unfolding placed
+      put_out room = let k : length out < at + length (sdc_bytes s) = rw size_is room in rw (lt-leb _ _ k) refl
+
+  pub length_by : (P : Head → Type 0) (r : ℕ) → length s.body ≡ 1024 → MatchOption s.head (r ≡ 0) P → ((x : Head) → P x → r ≡ min x.size 1024 + 3)
+      → (r ≡ length (sdc_bytes s)) × (r ≤ 1027)
+  length_by P r l m f = go s.head refl m
+    where
+      go : (h : Option Head) → s.head ≡ h → MatchOption h (r ≡ 0) P → (r ≡ length (sdc_bytes s)) × (r ≤ 1027)
+      go None e q = length_none r e q
+      go (Some x) e q = rw (f x q) (length_given x (min x.size 1024) e l refl)
+
+  pub put_none : (out : List ℕ) (at : ℕ) → s.head ≡ None → out ≡ placed out at (sdc_bytes s)
+  unfolding sdc_bytes block_bytes placed
+  put_none out at e = rw e (go (leb (at + 0) (length out)))
+    where
+      go : (b : Bool) → out ≡ pick b (written out at []) out
+      go true = sym (written_none out at)
+      go false = refl

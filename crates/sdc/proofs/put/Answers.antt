@@ -1,18 +1,22 @@
 -- `sdc::put` meets its contract. Assumes nothing.
-use Rattle.sdc.proofs.Writing.{put_none, put_given}
+use Rattle.std.proofs.Common.{rules}
 use native.Mathlib.Omega.{arith}
 use mathlib.Core.Path.{◌≡◌}
 use lib.ListN.{length}
-use borrow.Author.Rules.{rules}
+use Rattle.sdc.proofs.Writing.{put_fits, put_out, put_none}
 use Rattle.sdc.proofs.put.Goals as goal
+use Rattle.sdc.proofs.put.Goals.{else-n-out-via-then-n-out+else-at-out, else-n-out-via-else-n-out}
 
-pub put_first-requires : goal.put_first-requires
-put_first-requires c =
+pub returns-then-at-out : goal.returns-then-at-out
+returns-then-at-out c =
     let n : length c.args.s.body ≡ 1024 = search rules in
-    omega arith
+    put_fits c.args.s _ _ c.in-Some.is n c.min-n.ensures c.args.out.now c.args.at (omega arith) _ c.put_sealed.ensures
 
-pub returns-in-Absent : goal.returns-in-Absent
-returns-in-Absent c = search put_none
+pub returns-else-n-out : goal.returns-else-n-out
+returns-else-n-out c =
+    let n : length c.args.s.body ≡ 1024 = search rules in
+    put_out c.args.s _ _ c.in-Some.is n c.min-n.ensures c.args.out.now c.args.at
+    (elim c.else-n-out.branch [ else-n-out-via-then-n-out+else-at-out w ↦ omega arith | else-n-out-via-else-n-out w ↦ omega arith ])
 
-pub returns-in-Given : goal.returns-in-Given
-returns-in-Given c = search put_given
+pub returns-in_default : goal.returns-in_default
+returns-in_default c = put_none c.args.s c.args.out.now c.args.at c.in_default.is

@@ -1,6 +1,6 @@
--- `fac::write_number` meets its contract. Assumes nothing.
+-- `fac::check_fac` meets its contract. Assumes nothing.
 use Rattle.fac.proofs.Ways.{writing}
-use Rattle.fac.proofs.write_number.Goals as goal
+use Rattle.fac.proofs.check_fac.Goals as goal
 
 pub returns-then-too_large : goal.returns-then-too_large
 returns-then-too_large c = search writing

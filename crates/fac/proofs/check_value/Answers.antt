@@ -1,6 +1,6 @@
--- `fac::read_number` meets its contract. Assumes nothing.
+-- `fac::check_value` meets its contract. Assumes nothing.
 use Rattle.fac.proofs.Ways.{reading}
-use Rattle.fac.proofs.read_number.Goals as goal
+use Rattle.fac.proofs.check_value.Goals as goal
 
 pub returns-then-value-gt65528 : goal.returns-then-value-gt65528
 returns-then-value-gt65528 c = search reading

@@ -1,9 +1,9 @@
--- `mdi_write::write_number` meets its contract. Assumes nothing.
+-- `mdi_write::check_packet` meets its contract. Assumes nothing.
 use mathlib.Core.Path.{ap}
 use mathlib.Core.Bool.{not}
 use Rattle.mdi_write.specs.Packet.{four}
 use Rattle.mdi_write.proofs.Numbers.{w_1, w_5, w_6, w_9, w_10, w_11, w_late, w_0, size_ready}
-use Rattle.mdi_write.proofs.write_number.Goals as goal
+use Rattle.mdi_write.proofs.check_packet.Goals as goal
 
 pub returns-then-is_long : goal.returns-then-is_long
 returns-then-is_long c =
