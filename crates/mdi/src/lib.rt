@@ -11,10 +11,11 @@ ghost use Rattle.mdi.specs.Refusals.{content_tests, item_tests, nowhere, check_f
 ghost use Rattle.mdi_spots.specs.Names.{tist};
 ghost use Rattle.mdi.specs.Reading.{time_of, record_of, read_for, stream_for};
 
+use clock::Stamp;
 use description::{Description, Lengths};
 use items::Spot;
 use mdi_spots::Spots;
-use record::{Record, Time};
+use record::Record;
 use refusal::Refusal;
 
 // Number 0: the packet is well formed, and its known items stand at these spots. The place is an offset in the packet for 2 and 3, else
@@ -216,15 +217,14 @@ fn first(v: &[u8]) -> u8
     v[0]
 }
 
-fn time_of(s: &[u8], x: Spot) -> Time
+fn time_of(s: &[u8], x: Spot) -> Option<Stamp>
     requires { x ≡ spot_of (find tist (cut_of s.now).items) }
     ensures { result ≡ time_of (find tist (cut_of s.now).items) }
 {
     if x.start == 0 {
-        return Time::Absent;
+        return None;
     }
-    let stamp = clock::decode(items::value(s, x)).unwrap_or_default();
-    Time::Given { stamp }
+    Some(clock::decode(items::value(s, x)).unwrap_or_default())
 }
 
 fn record_of(s: &[u8], t: Spots) -> Record
