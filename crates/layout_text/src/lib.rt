@@ -1,7 +1,7 @@
 // What the program `layout` prints (01, "The description and the frame it cuts"): the layout of a frame, or its refusal, as text.
 #![tactic(auto)]
 
-ghost use Rattle.std.specs.Prelude.{◌≡◌, ◌++◌, ◌+◌, ◌≤◌, length, take, drop, IfOk};
+ghost use Rattle.std.specs.Prelude.{◌≡◌, ◌++◌, ◌+◌, ◌≤◌, length, drop, IfOk};
 ghost use Rattle.laws.specs.Written.{written};
 ghost use Rattle.io.specs.Counts.{IsPrefixLen};
 ghost use Rattle.moves.specs.Moves.{Puts};
@@ -25,17 +25,14 @@ fn put_part(name: &[u8; 14], i: usize, x: Part, out: &mut [u8], at: usize) -> us
     line_text::pair(b" at ", x.at as u64, b" length ", x.len as u64, out, a)
 }
 
-// The lines of four parts, the first at index from.
-fn put_parts(name: &[u8; 14], p: Placement, from: usize, out: &mut [u8], at: usize) -> usize
-    requires { (from ≤ 4) × (at + 348 ≤ length out.old) }
-    ensures { (result ≤ at + 348) × Puts out.old at (part_lines name.now 0 (take 4 (drop from p.part))) out.new result }
+// The lines of the parts of streams 0, 1, ..
+fn put_parts(name: &[u8; 14], parts: &[Part], out: &mut [u8], at: usize) -> usize
+    requires { (length parts.now ≤ 4) × (at + 348 ≤ length out.old) }
+    ensures { (result ≤ at + 348) × Puts out.old at (part_lines name.now 0 parts.now) out.new result }
 {
     let mut next = at;
-    let mut i = 0;
-    while i < 4 {
-        let x = p.part[from + i];
+    for (i, &x) in parts.iter().enumerate() {
         next = put_part(name, i, x, out, next);
-        i += 1;
     }
     next
 }
@@ -56,10 +53,9 @@ fn put_layout(capacity: usize, p: Placement, out: &mut [u8]) -> usize
     ensures { (result ≤ 1024) × Puts out.old 0 (lines_of capacity p.part p.padding) out.new result }
 {
     let a = line_text::line(b"capacity ", capacity as u64, out, 0);
-    let b = put_parts(b"part A stream ", p, 0, out, a);
-    let c = put_parts(b"part B stream ", p, 4, out, b);
-    let x = p.padding;
-    put_padding(x, out, c)
+    let b = put_parts(b"part A stream ", &p.part[..4], out, a);
+    let c = put_parts(b"part B stream ", &p.part[4..8], out, b);
+    put_padding(p.padding, out, c)
 }
 
 // The value behind the two bytes of the capacity.
