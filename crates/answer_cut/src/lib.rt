@@ -4,7 +4,6 @@
 use cases::case::Taken;
 use cases::{answer, case};
 use description::Description;
-use frames::Streams;
 use saying::Said;
 
 // What stands in a body before the buffers: capacity, description, MSC mode.
@@ -22,17 +21,6 @@ fn mode_in(body: &[u8]) -> u8 {
     case::byte(body, 27)
 }
 
-fn said_lengths(done: Streams) -> Said {
-    let n = done.len;
-    let three = saying::three(
-        saying::begin(done.number, 0),
-        n[0] as u64,
-        n[1] as u64,
-        n[2] as u64,
-    );
-    saying::value(three, n[3] as u64)
-}
-
 fn cut_of(
     body: &[u8],
     frame: &[u8],
@@ -41,7 +29,7 @@ fn cut_of(
     c: &mut [u8],
     d: &mut [u8],
 ) -> Said {
-    said_lengths(frames::cut(
+    let (number, lengths) = saying::numbered(frames::cut(
         capacity_in(body),
         described(body),
         mode_in(body),
@@ -50,7 +38,12 @@ fn cut_of(
         b,
         c,
         d,
-    ))
+    ));
+    let mut said = saying::begin(number, 0);
+    for n in lengths {
+        said = saying::value(said, n as u64);
+    }
+    said
 }
 
 // The outputs stand at the front of w to z.

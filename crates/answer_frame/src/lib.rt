@@ -80,7 +80,7 @@ pub fn quarter(rooms: &[u8], i: usize, n: usize) -> &[u8]
 }
 
 fn build_of(body: &[u8], rooms: &[u8], f: Four, dst: &mut [u8]) -> Said {
-    let done = frames::build(
+    let (number, length) = saying::numbered(frames::build(
         capacity_in(body),
         described(body),
         mode_in(body),
@@ -89,8 +89,8 @@ fn build_of(body: &[u8], rooms: &[u8], f: Four, dst: &mut [u8]) -> Said {
         quarter(rooms, 2, f.c),
         quarter(rooms, 3, f.d),
         dst,
-    );
-    saying::one(done.number, done.length as u64)
+    ));
+    saying::one(number, length as u64)
 }
 
 fn build_to(body: &[u8], rooms: &[u8], f: Four, room: &mut [u8], out: &mut [u8]) -> usize {
