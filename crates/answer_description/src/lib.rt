@@ -132,7 +132,25 @@ fn said_places(p: Places) -> Said {
     with_part(with_half(with_half(said, part, 0), part, 1), padding)
 }
 
+// What stands in a body before the buffers of a frame: capacity, description, MSC mode.
+pub const FRAME: usize = 28;
+
+#[derive(Clone, Copy)]
+pub struct FrameHead {
+    pub capacity: usize,
+    pub description: Description,
+    pub mode: u8,
+}
+
+pub fn frame_head(body: &[u8]) -> FrameHead {
+    FrameHead {
+        capacity: fields::read64(body, 0) as usize,
+        description: description_at(body, 8),
+        mode: case::byte(body, 27),
+    }
+}
+
 pub fn layout(body: &[u8]) -> Said {
-    let capacity = fields::read64(body, 0) as usize;
-    said_places(places::layout(capacity, description_at(body, 8), case::byte(body, 27)))
+    let head = frame_head(body);
+    said_places(places::layout(head.capacity, head.description, head.mode))
 }
