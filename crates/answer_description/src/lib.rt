@@ -106,9 +106,26 @@ fn said_places(number: u32, p: Placement) -> Said {
     with_part(said, p.padding)
 }
 
+// What stands in a body before the buffers of a frame: capacity, description, MSC mode.
+pub const FRAME: usize = 28;
+
+#[derive(Clone, Copy)]
+pub struct FrameHead {
+    pub capacity: usize,
+    pub description: Description,
+    pub mode: u8,
+}
+
+pub fn frame_head(body: &[u8]) -> FrameHead {
+    FrameHead {
+        capacity: fields::read64(body, 0) as usize,
+        description: description_at(body, 8),
+        mode: case::byte(body, 27),
+    }
+}
+
 pub fn layout(body: &[u8]) -> Said {
-    let capacity = fields::read64(body, 0) as usize;
-    let mode = case::byte(body, 27);
-    let (number, p) = saying::numbered(places::layout(capacity, description_at(body, 8), mode));
+    let head = frame_head(body);
+    let (number, p) = saying::numbered(places::layout(head.capacity, head.description, head.mode));
     said_places(number, p)
 }

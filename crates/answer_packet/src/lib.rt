@@ -23,9 +23,9 @@ fn told(h: Head) -> Said {
 pub fn packet_read(body: &[u8], out: &mut [u8]) -> usize {
     let mut room = [0u8; case::BUFFER];
     let taken = case::buffer(body, 8, &mut room);
-    let s = case::front(&room, taken.len);
+    let s = case::front(&room, taken.map_or(0, |t| t.len));
     let p = number_at(body, 0);
-    let said = saying::only_if(told(packet::read(p, s)), case::ends(taken, body));
+    let said = saying::only_if(Some(told(packet::read(p, s))), case::ends(taken, body));
     saying::lent(out, said, packet::useful(p, s))
 }
 

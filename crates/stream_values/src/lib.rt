@@ -146,8 +146,8 @@ pub struct Run {
 }
 
 // The run before its first step, which stands at a position of the body. It is fresh where the body has no state.
-pub fn begun(call: u8, body: &[u8], at: usize, whole: bool) -> Run {
-    let said = saying::only_if(saying::begin(0, 0), whole);
+pub fn begun(call: u8, body: &[u8], at: usize) -> Run {
+    let said = saying::begin(0, 0);
     let sender = if call == 35 {
         sender_in(body)
     } else {
@@ -167,18 +167,17 @@ pub fn begun(call: u8, body: &[u8], at: usize, whole: bool) -> Run {
 }
 
 // What was said of the steps, and the state after the last.
-pub fn told(r: Run, call: u8, whole: bool) -> Said {
-    let said = saying::only_if(r.said, whole);
+pub fn told(r: Run, call: u8) -> Said {
     match call {
-        35 => tell_sender(said, r.sender),
-        36 => tell_receiver(said, r.receiver),
-        _ => said,
+        35 => tell_sender(r.said, r.sender),
+        36 => tell_receiver(r.said, r.receiver),
+        _ => r.said,
     }
 }
 
 // A step's first value is its number, and the answer's number is that of the last step.
-pub fn begin_step(said: Said, number: u32, whole: bool) -> Said {
-    let mut next = saying::only_if(said, whole);
+pub fn begin_step(said: Said, number: u32) -> Said {
+    let mut next = said;
     next.number = number;
-    saying::value(next, number as u64)
+    saying::value(next, u64::from(number))
 }
