@@ -5,11 +5,13 @@ ghost use Rattle.std.specs.Prelude.{◌≡◌, length, get_or};
 ghost use Rattle.crc.specs.Crc.{crc_of};
 ghost use Rattle.dispersal.specs.Dispersal.{number_for, output_for};
 ghost use Rattle.packet.specs.Calls.{check_for};
+ghost use Rattle.refusal.specs.Refusal.{number_in};
 ghost use Rattle.mdi_write.specs.Answers.{out_for};
 ghost use Rattle.mdi_write.specs.Packet.{four};
 ghost use Rattle.meter.specs.Seen.{seen_in, record_for, wrote_for};
 
 use record::{Record, Time};
+use refusal::Refusal;
 
 // Of a packet read: the number, and what shows that its record was made. The byte is one of the SDC data, 0 where there is none.
 #[repr(C)]
@@ -44,11 +46,21 @@ pub extern "C" fn meter_disperse(input: &[u8], output: &mut [u8]) -> u32
     dispersal::disperse(input, output)
 }
 
+// The number of an answer.
+fn number(answer: Result<(), Refusal>) -> u32
+    ensures { result ≡ number_in answer }
+{
+    match answer {
+        Ok(()) => 0,
+        Err(why) => why.number(),
+    }
+}
+
 #[unsafe(no_mangle)]
 pub extern "C" fn meter_check(p: usize, bytes: &[u8]) -> u32
     ensures { result ≡ check_for p bytes.now }
 {
-    packet::check(p, bytes)
+    number(packet::check(p, bytes))
 }
 
 fn byte_at(s: &[u8], at: usize) -> u8

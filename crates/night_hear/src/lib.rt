@@ -2,7 +2,8 @@
 #![tactic(auto)]
 
 use night_plan::{SLOTS, list};
-use receiver::{Answer, Receiver};
+use receiver::{Delivered, Receiver};
+use refusal::Refusal;
 
 // Receiver and numbers, by value: the prover pays more for what is lent on and on.
 #[derive(Clone, Copy)]
@@ -12,15 +13,20 @@ pub struct Heard {
 }
 
 // What a packet brought.
-fn take(rt: &impl Print, book: [usize; SLOTS], answer: Answer, buffer: &[u8]) -> [usize; SLOTS] {
-    if let Answer::Delivered { id, length } = answer {
-        let id = (id % 4) as usize;
+fn take(
+    rt: &impl Print,
+    book: [usize; SLOTS],
+    answer: Result<Option<Delivered>, Refusal>,
+    buffer: &[u8],
+) -> [usize; SLOTS] {
+    if let Ok(Some(unit)) = answer {
+        let id = (unit.id % 4) as usize;
         let at = id * 4096;
         return night_book::deliver(
             rt,
             book,
             id,
-            list::between(buffer, at, list::plus(at, length)),
+            list::between(buffer, at, list::plus(at, unit.length)),
         );
     }
     book
@@ -31,10 +37,8 @@ fn hear(rt: &impl Print, n: Heard, packet: &[u8], buffer: &mut [u8]) -> Heard {
     let r = n.r;
     let book = n.book;
     let told = r.step(book[night_plan::P], buffer, packet);
-    let answer = told.answer;
-    let dropped = told.dropped;
-    let book = night_book::drop_bytes(book, dropped);
-    let book = take(rt, book, answer, buffer);
+    let book = night_book::drop_bytes(book, told.dropped);
+    let book = take(rt, book, told.answer, buffer);
     let r = told.next;
     Heard { r, book }
 }
