@@ -145,5 +145,6 @@ pub extern "C" fn keshgurvat_receive(
     ensures values { said result ≡ report_for p state packet.now (length buffer.old) }
     ensures memory { buffer.new ≡ buffer_for p state packet.now buffer.old }
 {
-    Received::from(state.step(p, buffer, packet))
+    let told = state.step(p, buffer, packet);
+    Received::from(told)
 }

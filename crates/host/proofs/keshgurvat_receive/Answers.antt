@@ -5,9 +5,9 @@ use Rattle.host.proofs.keshgurvat_receive.Goals as goal
 
 pub returns : goal.returns
 returns c =
-    let t = told_of c.step.result in
+    let t = told_of c.step-told.result in
     record {
-      answer = answer_made _ t c.from.ensures _ _ _ _ c.step.ensures.answer;
-      values = values_made _ t c.from.ensures _ _ _ _ c.step.ensures.values;
-      memory = c.step.ensures.memory;
+      answer = answer_made _ t c.from.ensures _ _ _ _ c.step-told.ensures.answer;
+      values = values_made _ t c.from.ensures _ _ _ _ c.step-told.ensures.values;
+      memory = c.step-told.ensures.memory;
     }
