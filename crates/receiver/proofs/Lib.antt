@@ -5,6 +5,7 @@ pub mod Balance
 pub mod Examples
 pub mod Settled
 pub mod Sound
+pub mod Facts
 pub mod Rules
 pub mod Dropped
 pub mod Dropping
