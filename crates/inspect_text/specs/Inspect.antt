@@ -9,7 +9,7 @@ use Rattle.calendar.specs.declared.Date.{Date}
 use Rattle.description.specs.Bytes.{no_stream}
 use Rattle.description.specs.declared.Description.{Description}
 use Rattle.description.specs.declared.Lengths.{Lengths}
-use Rattle.mdi.specs.declared.Answer.{Answer}
+use Rattle.mdi.specs.Reading.{Answer}
 use Rattle.record.specs.declared.Record.{Record}
 
 -- stream i of count: its bytes in part A and part B together

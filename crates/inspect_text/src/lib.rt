@@ -4,20 +4,15 @@
 
 ghost use Rattle.std.specs.Prelude.{◌≡◌, ◌+◌, ◌≤◌, ◌<◌, length};
 ghost use Rattle.moves.specs.Moves.{Puts};
+ghost use Rattle.mdi.specs.Reading.{read_in};
 ghost use Rattle.inspect_text.specs.Inspect.{length_text, lengths_text, streams_text, mode_text, content_text, head_text, refused_text, Line};
 ghost use Rattle.inspect_text.specs.Break.{raw_stamp_text, raw_text, count_text, break_text};
 
 use calendar::Date;
 use clock::Stamp;
 use description::{Description, Lengths};
-use mdi::Answer;
 use record::{Record, Time};
-
-fn wide(x: u16) -> u64
-    ensures { (result ≡ x) × (result < 65536) }
-{
-    x as u64
-}
+use refusal::Refused;
 
 // The length of stream i of count; nothing where there is no such stream.
 fn put_length(count: usize, i: usize, x: Lengths, out: &mut [u8], at: usize) -> usize
@@ -27,7 +22,7 @@ fn put_length(count: usize, i: usize, x: Lengths, out: &mut [u8], at: usize) -> 
     if count <= i {
         return at;
     }
-    line_text::named(b" ", wide(x.a) + wide(x.b), out, at)
+    line_text::named(b" ", u64::from(x.a) + u64::from(x.b), out, at)
 }
 
 fn put_lengths(d: Description, out: &mut [u8], at: usize) -> usize
@@ -84,25 +79,21 @@ fn put_head(n: u64, offset: u64, out: &mut [u8], at: usize) -> usize
 }
 
 // The line of packet n, which stands at an offset of the file, from what reading it gave.
-pub fn line(n: u64, offset: u64, x: Answer, out: &mut [u8; 1024]) -> usize
-    ensures { Line n offset x out.old out.new result }
+pub fn line(n: u64, offset: u64, answer: Result<Record, Refused>, out: &mut [u8; 1024]) -> usize
+    ensures { Line n offset (read_in answer) out.old out.new result }
 {
-    let c = x.content;
-    let t = c.time;
-    let d = calendar::utc(stamp_text::since(t));
     let a = put_head(n, offset, out, 0);
-    if x.number != 0 {
-        let b = line_text::word(b" ", out, a);
-        return line_text::pair(
-            b"refused ",
-            x.number as u64,
-            b" at ",
-            x.place as u64,
-            out,
-            b,
-        );
+    match answer {
+        Ok(record) => {
+            let d = calendar::utc(stamp_text::since(record.time));
+            put_content(record, d, out, a)
+        }
+        Err(refused) => {
+            let b = line_text::word(b" ", out, a);
+            let k = u64::from(refused.why.number());
+            line_text::pair(b"refused ", k, b" at ", refused.place, out, b)
+        }
     }
-    put_content(c, d, out, a)
 }
 
 // The line of a recording that is refused.

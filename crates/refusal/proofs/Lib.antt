@@ -1,3 +1,4 @@
 pub mod Numbers
+pub mod Placed
 pub mod Settled
 pub mod Told

@@ -1,5 +1,5 @@
 -- The ways through the code, in its own words. Assumes nothing.
-use Rattle.std.proofs.Common.{◌≡◌, ℕ, Bool, true, false, not, eqb, List, length, sym, refl, ap, ◌∙◌, subst, ap₂, zero-add, eq-eqb, ne_eqb}
+use Rattle.std.proofs.Common.{Result, Ok, Err, ◌≡◌, ℕ, Bool, true, false, not, eqb, List, length, sym, refl, ap, ◌∙◌, subst, ap₂, zero-add, eq-eqb, ne_eqb}
 use borrow.Author.Tests.{not-true, not-false}
 use Rattle.laws.specs.Written.{written}
 use Rattle.laws.proofs.Written.{written_none}
@@ -9,8 +9,10 @@ use Rattle.calendar.proofs.Dates.{date_is}
 use Rattle.inspect_text.specs.Break.{break_text}
 use Rattle.inspect_text.specs.Inspect.{packet_text, refused_text, Line}
 use Rattle.summary_text.specs.Summary.{summary_text, Summary}
-use Rattle.mdi.specs.Reading.{read_for}
-use Rattle.mdi.specs.declared.Answer.{Answer}
+use Rattle.mdi.specs.Reading.{Answer, read_in, read_for}
+use Rattle.refusal.specs.Refusal.{number_of}
+use Rattle.refusal.specs.declared.Refused.{Refused}
+use Rattle.refusal.proofs.Numbers.{number_ne0}
 use Rattle.moves.specs.Moves.{Puts}
 use Rattle.moves.proofs.Pieces.{puts_none}
 use Rattle.stamp_text.specs.Stamp.{since}
@@ -35,30 +37,31 @@ begin_done first w t l e f g = rw (e, f, g) refl
 
 -- ---- a break
 
-module _ (s : Seen) (a : Answer) where
-  pub break_refused : (d : List ℕ) → (a.number ≡ 0 → ⊥) → Puts d 0 (break_of s a) d 0
+-- as the code meets it: by the answer of a read, x
+module _ (s : Seen) (x : Result Record Refused) where
+  pub break_refused : (d : List ℕ) (r : Refused) → x ≡ Err r → Puts d 0 (break_of s (read_in x)) d 0
   unfolding break_of
-  break_refused d h = rw (ne_eqb a.number 0 h) (puts_none d 0)
+  break_refused d r q = rw (q, ne_eqb (number_of r.why) 0 (number_ne0 r.why)) (puts_none d 0)
 
-  pub break_first : (d : List ℕ) → a.number ≡ 0 → not s.any ≡ true → Puts d 0 (break_of s a) d 0
+  pub break_first : (d : List ℕ) (r : Record) → x ≡ Ok r → s.any ≡ false → Puts d 0 (break_of s (read_in x)) d 0
   unfolding break_of
-  break_first d h l = rw (eq-eqb a.number 0 h, not-true s.any l) (puts_none d 0)
+  break_first d r q l = rw (q, l) (puts_none d 0)
 
-  pub break_there : (d e : List ℕ) (n : ℕ) → a.number ≡ 0 → not s.any ≡ false → Puts d 0 (break_text s.last a.content) e n → Puts d 0 (break_of s a) e n
+  pub break_there : (d e : List ℕ) (n : ℕ) (r : Record) → x ≡ Ok r → s.any ≡ true → Puts d 0 (break_text s.last r) e n → Puts d 0 (break_of s (read_in x)) e n
   unfolding break_of
-  break_there d e n h l p = rw (eq-eqb a.number 0 h, not-false s.any l) p
+  break_there d e n r q l p = rw (q, l) p
 
   -- ---- what is seen after
 
-  pub after_refused : (n : ℕ) (t : Tally) → n ≡ length (break_of s a) → t ≡ counted_for s.tally a (not (eqb n 0)) → (a.number ≡ 0 → ⊥)
-      → record { tally = t; any = s.any; last = s.last } ≡ seen_after s a
+  pub after_refused : (n : ℕ) (t : Tally) → n ≡ length (break_of s (read_in x)) → t ≡ counted_for s.tally (read_in x) (not (eqb n 0)) → (r : Refused) → x ≡ Err r
+      → record { tally = t; any = s.any; last = s.last } ≡ seen_after s (read_in x)
   unfolding seen_after
-  after_refused n t e q h = rw (q, e, ne_eqb a.number 0 h) refl
+  after_refused n t e q r i = rw (q, e, i, ne_eqb (number_of r.why) 0 (number_ne0 r.why)) refl
 
-  pub after_read : (n : ℕ) (t : Tally) → n ≡ length (break_of s a) → t ≡ counted_for s.tally a (not (eqb n 0)) → a.number ≡ 0
-      → record { tally = t; any = true; last = a.content } ≡ seen_after s a
+  pub after_read : (n : ℕ) (t : Tally) → n ≡ length (break_of s (read_in x)) → t ≡ counted_for s.tally (read_in x) (not (eqb n 0)) → (r : Record) → x ≡ Ok r
+      → record { tally = t; any = true; last = r } ≡ seen_after s (read_in x)
   unfolding seen_after
-  after_read n t e q h = rw (q, e, eq-eqb a.number 0 h) refl
+  after_read n t e q r i = rw (q, e, i) refl
 
 -- ---- a packet
 

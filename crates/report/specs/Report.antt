@@ -5,8 +5,7 @@ use Rattle.calendar.specs.Dates.{date_of}
 use Rattle.inspect_text.specs.Break.{break_text}
 use Rattle.inspect_text.specs.Inspect.{packet_text, refused_text}
 use Rattle.summary_text.specs.Summary.{summary_text}
-use Rattle.mdi.specs.Reading.{read_for}
-use Rattle.mdi.specs.declared.Answer.{Answer}
+use Rattle.mdi.specs.Reading.{Answer, read_for}
 use Rattle.record.specs.Records.{no_record}
 use Rattle.stamp_text.specs.Stamp.{since}
 use Rattle.tally.specs.Tally.{no_tally, counted_for, up}

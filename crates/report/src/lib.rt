@@ -4,13 +4,13 @@
 
 ghost use Rattle.std.specs.Prelude.{◌≡◌, length};
 ghost use Rattle.laws.specs.Written.{written};
-ghost use Rattle.mdi.specs.Reading.{read_for};
+ghost use Rattle.mdi.specs.Reading.{read_in, read_for};
 ghost use Rattle.moves.specs.Moves.{Puts};
 ghost use Rattle.walk.specs.Walk.{work_for};
 ghost use Rattle.report.specs.Report.{begun_for, break_of, line_of, seen_after, break_for, line_for, shown_for, refusal_of, summary_for, refusal_for, closed_for};
 
-use mdi::Answer;
 use record::Record;
+use refusal::Refused;
 use tally::Tally;
 use walk::{Ended, Walk};
 
@@ -137,11 +137,11 @@ fn saw(s: Seen, at: u64, packet: &[u8], broken: &mut [u8; 1024], line: &mut [u8;
     ensures between { Puts broken.old 0 (break_of s (read_for packet.now)) broken.new result.broken }
     ensures text { Puts line.old 0 (line_of s at (read_for packet.now)) line.new result.line }
 {
-    let a = mdi::read(packet);
+    let answer = mdi::read(packet);
     let t = s.tally;
-    let n = inspect_text::line(std::num::wrapping_add_u64(t.packets, 1), at, a, line);
-    let b = put_break(s, a, broken);
-    let seen = after(s, a, b);
+    let n = inspect_text::line(std::num::wrapping_add_u64(t.packets, 1), at, answer, line);
+    let b = put_break(s, answer, broken);
+    let seen = after(s, answer, b);
     Told {
         seen,
         broken: b,
@@ -150,39 +150,31 @@ fn saw(s: Seen, at: u64, packet: &[u8], broken: &mut [u8; 1024], line: &mut [u8;
 }
 
 // The line of a break before this packet, where it was read and one was before.
-fn put_break(s: Seen, a: Answer, out: &mut [u8; 1024]) -> usize
-    ensures { Puts out.old 0 (break_of s a) out.new result }
+fn put_break(s: Seen, answer: Result<Record, Refused>, out: &mut [u8; 1024]) -> usize
+    ensures { Puts out.old 0 (break_of s (read_in answer)) out.new result }
 {
-    if a.number != 0 {
-        return 0;
+    match answer {
+        Ok(record) if s.any => inspect_text::broken(s.last, record, out),
+        _ => 0,
     }
-    if !s.any {
-        return 0;
-    }
-    let last = s.last;
-    let c = a.content;
-    inspect_text::broken(last, c, out)
 }
 
 // n is the length of the line of a break.
-fn after(s: Seen, a: Answer, n: usize) -> Seen
-    requires { n ≡ length (break_of s a) }
-    ensures { result ≡ seen_after s a }
+fn after(s: Seen, answer: Result<Record, Refused>, n: usize) -> Seen
+    requires { n ≡ length (break_of s (read_in answer)) }
+    ensures { result ≡ seen_after s (read_in answer) }
 {
-    let t = s.tally;
-    let tally = tally::count(t, a, n != 0);
-    if a.number != 0 {
-        let was = s.last;
-        return Seen {
+    let tally = tally::count(s.tally, answer, n != 0);
+    match answer {
+        Ok(last) => Seen {
+            tally,
+            any: true,
+            last,
+        },
+        Err(_) => Seen {
             tally,
             any: s.any,
-            last: was,
-        };
-    }
-    let last = a.content;
-    Seen {
-        tally,
-        any: true,
-        last,
+            last: s.last,
+        },
     }
 }

@@ -1,7 +1,7 @@
 -- What is counted over a recording (01, "Clock and recordings"). Assumes nothing.
 use Rattle.std.specs.Prelude.{ℕ, ◌+◌, ◌%◌, ◌^◌, Bool, replicate, slice_index, slice_set}
 use Rattle.laws.specs.Pick.{pick}
-use Rattle.mdi.specs.declared.Answer.{Answer}
+use Rattle.mdi.specs.Reading.{Answer}
 use Rattle.record.specs.declared.Time.{Time}
 use Rattle.record.specs.declared.Time.TheVariants.{Absent, Given}
 use Rattle.tally.specs.declared.Tally.{Tally}

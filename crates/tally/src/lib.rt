@@ -3,10 +3,11 @@
 #![tactic(auto)]
 
 ghost use Rattle.std.specs.Prelude.{◌≡◌};
+ghost use Rattle.mdi.specs.Reading.{read_in};
 ghost use Rattle.tally.specs.Tally.{no_tally, earlier, more_for, counted_for};
 
-use mdi::Answer;
-use record::Time;
+use record::{Record, Time};
+use refusal::Refused;
 
 // `numbers` has for each number that `mdi::read` gives, 0 to 11, how many packets got it: 0 is a packet that was read. Counts wrap at 2^64.
 #[derive(Clone, Copy)]
@@ -52,15 +53,33 @@ fn more(n: u64, one: bool) -> u64
     n
 }
 
+// 01's number of what reading gave.
+fn number_in(answer: Result<Record, Refused>) -> u32
+    ensures { result ≡ (read_in answer).number }
+{
+    match answer {
+        Ok(_) => 0,
+        Err(refused) => refused.why.number(),
+    }
+}
+
+fn time_in(answer: Result<Record, Refused>) -> Time
+    ensures { result ≡ (read_in answer).content.time }
+{
+    match answer {
+        Ok(record) => record.time,
+        Err(_) => Time::Absent,
+    }
+}
+
 // One packet more, and whether it broke the succession. A refused packet has no timestamp.
-pub fn count(t: Tally, a: Answer, broke: bool) -> Tally
-    ensures { result ≡ counted_for t a broke }
+pub fn count(t: Tally, answer: Result<Record, Refused>, broke: bool) -> Tally
+    ensures { result ≡ counted_for t (read_in answer) broke }
 {
     let mut numbers = t.numbers;
-    let i = (a.number % 12) as usize;
+    let i = (number_in(answer) % 12) as usize;
     numbers[i] = std::num::wrapping_add_u64(numbers[i], 1);
-    let c = a.content;
-    let time = c.time;
+    let time = time_in(answer);
     let was_first = t.first;
     let was_last = t.last;
     let first = earlier_of(was_first, time);

@@ -2,8 +2,8 @@
 use Rattle.report.proofs.Ways.{after_refused, after_read}
 use Rattle.report.proofs.after.Goals as goal
 
-pub returns-then-a-ne0 : goal.returns-then-a-ne0
-returns-then-a-ne0 c = search after_refused
+pub returns-in-Ok : goal.returns-in-Ok
+returns-in-Ok c = after_read _ _ _ _ c.requires c.count-tally.ensures _ c.in-Ok.is
 
-pub returns : goal.returns
-returns c = search after_read
+pub returns-in-Err : goal.returns-in-Err
+returns-in-Err c = after_refused _ _ _ _ c.requires c.count-tally.ensures _ c.in-Err.is

@@ -2,11 +2,11 @@
 use Rattle.report.proofs.Ways.{break_refused, break_first, break_there}
 use Rattle.report.proofs.put_break.Goals as goal
 
-pub returns-then-a-ne0 : goal.returns-then-a-ne0
-returns-then-a-ne0 c = search break_refused
+pub returns-in-Ok : goal.returns-in-Ok
+returns-in-Ok c = break_there _ _ _ _ _ _ c.in-Ok.is c.if-s.true c.broken.ensures
 
-pub returns-then-not-s : goal.returns-then-not-s
-returns-then-not-s c = search break_first
+pub returns-in_default : goal.returns-in_default
+returns-in_default c = break_first _ _ _ _ c.in-Ok.is c.if-s.false
 
-pub returns : goal.returns
-returns c = search break_there
+pub returns-in_default-2 : goal.returns-in_default-2
+returns-in_default-2 c = break_refused _ _ _ _ c.in_default.is
