@@ -3,15 +3,14 @@ use Prim.Native.Nat.{ℕ, ◌-◌, ◌≤◌, ◌<◌}
 use mathlib.Core.Path.{◌≡◌, refl, sym, ap, ◌∙◌}
 use mathlib.Core.Bool.{Bool, true, false}
 use mathlib.Core.List.{List}
-use Rattle.std.specs.Prelude.{Ok, Err}
+use Rattle.std.specs.Prelude.{Option, Some, None, Ok, Err}
 use borrow.Author.Tests.{lt-ltb, le-ltb, le-leb, lt-leb, ne_eqb}
 use lib.Dec.{eqb}
 use lib.ListN.{length}
 use Rattle.laws.specs.Pick.{pick}
 use Rattle.laws.specs.Refuse.{refused_with, refused_at}
 use Rattle.items.specs.Items.{Item, cut_of, twice, is_there, place_of}
-use Rattle.repeats.specs.Repeats.{repeat_of, repeat_for}
-use Rattle.repeats.specs.declared.Repeat.{Repeat}
+use Rattle.repeats.specs.Repeats.{Repeat, repeat_in, repeat_of, repeat_for}
 use Rattle.mdi_spots.specs.Table.{missing, bad_length}
 use Rattle.mdi_spots.specs.Spotted.{spots_of, passed_of, absent_at, bad_length_at}
 use Rattle.mdi_spots.specs.declared.Spots.{Spots}
@@ -112,27 +111,27 @@ module _ (p : List ℕ) where
     unfolding check_for tests_for
     way_2 h = rw (le-ltb 65528 (length p) h1, f2, le-leb 8 (length p - w.stop) h) refl
 
-    module _ (h2 : length p - w.stop < 8) (r : Repeat) (er : r ≡ repeat_for p) where
-      f3 : r ≡ repeat_of (twice (cut_of p).items)
+    module _ (h2 : length p - w.stop < 8) where
+      same : (r : Option ℕ) → repeat_in r ≡ repeat_for p → repeat_in r ≡ repeat_of (twice (cut_of p).items)
       unfolding repeat_for
-      f3 = er ∙ rw (le-ltb 65528 (length p) h1) refl
+      same r e = e ∙ rw (le-ltb 65528 (length p) h1) refl
 
-      there : is_there (twice (cut_of p).items) ≡ r.found
+      there : (r : Option ℕ) → repeat_in r ≡ repeat_for p → is_there (twice (cut_of p).items) ≡ (repeat_in r).found
       unfolding repeat_of
-      there = sym (ap (λ (x : Repeat). x.found) f3)
+      there r e = sym (ap (λ (x : Repeat). x.found) (same r e))
 
-      at : place_of (twice (cut_of p).items) ≡ r.place
+      at : (r : Option ℕ) → repeat_in r ≡ repeat_for p → place_of (twice (cut_of p).items) ≡ (repeat_in r).place
       unfolding repeat_of
-      at = sym (ap (λ (x : Repeat). x.place) f3)
+      at r e = sym (ap (λ (x : Repeat). x.place) (same r e))
 
-      pub way_3 : r.found ≡ true → verdict_in (Err (record { why = Repeated; place = r.place })) ≡ check_for p
+      pub way_3 : (place : ℕ) → repeat_in (Some place) ≡ repeat_for p → verdict_in (Err (record { why = Repeated; place = place })) ≡ check_for p
       unfolding check_for tests_for
-      way_3 h = rw (le-ltb 65528 (length p) h1, f2, lt-leb 8 (length p - w.stop) h2, there, at, h) refl
+      way_3 place e = rw (le-ltb 65528 (length p) h1, f2, lt-leb 8 (length p - w.stop) h2, there (Some place) e, at (Some place) e) refl
 
-      module _ (h3 : r.found ≡ false) where
+      module _ (h3 : repeat_in None ≡ repeat_for p) where
         on : (n : ℕ) → n ≡ refused_with (item_tests (cut_of p).items) → check_for p ≡ record { number = n; place = 0; spots = pick (eqb n 0) (spots_of (cut_of p).items) nowhere }
         unfolding check_for tests_for
-        on n en = rw (le-ltb 65528 (length p) h1, f2, lt-leb 8 (length p - w.stop) h2, there, h3, items_place (cut_of p).items, ← en) refl
+        on n en = rw (le-ltb 65528 (length p) h1, f2, lt-leb 8 (length p - w.stop) h2, there None h3, items_place (cut_of p).items, ← en) refl
 
         -- an item's refusal
         pub way_on : (why : Refusal) → number_of why ≡ refused_with (item_tests (cut_of p).items) → verdict_in (Err (record { why = why; place = 0 })) ≡ check_for p

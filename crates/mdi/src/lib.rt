@@ -155,11 +155,10 @@ fn check(packet: &[u8]) -> Result<Spots, Refused>
             place: seen.stop as u64,
         });
     }
-    let again = repeats::first_again(packet);
-    if again.found {
+    if let Some(again) = repeats::first_again(packet) {
         return Err(Refused {
             why: Refusal::Repeated,
-            place: again.place as u64,
+            place: again as u64,
         });
     }
     check_items(packet, seen.spots)?;

@@ -9,8 +9,8 @@ returns-then-packet-gt65528 c = search way_1
 pub returns-then-packet-seen-ge8 : goal.returns-then-packet-seen-ge8
 returns-then-packet-seen-ge8 c = search way_2
 
-pub returns-then-again : goal.returns-then-again
-returns-then-again c = search way_3
+pub returns-in-Some : goal.returns-in-Some
+returns-in-Some c = way_3 c.args.packet.now c.if-packet-gt65528.false _ c.find_all-seen.ensures.0 c.if-packet-seen-ge8.false _ c.in-Some.ensures
 
 pub check_items-requires : goal.check_items-requires
 check_items-requires c = search spots_of_law
@@ -19,10 +19,10 @@ pub returns-in_err-check_items : goal.returns-in_err-check_items
 returns-in_err-check_items c =
     let p = err_from_is_err_and c.from_residual.result c.from_residual.ensures.1 in
     rw (p.1, p.2)
-    (way_on c.args.packet.now c.if-packet-gt65528.false _ c.find_all-seen.ensures.0 c.if-packet-seen-ge8.false _ c.first_again-again.ensures c.if-again.false
+    (way_on c.args.packet.now c.if-packet-gt65528.false _ c.find_all-seen.ensures.0 c.if-packet-seen-ge8.false c.in_default.ensures
     c.in_err-check_items.field-0.0 c.in_err-check_items.ensures)
 
 pub returns : goal.returns
 returns c =
-    way_done c.args.packet.now c.if-packet-gt65528.false _ c.find_all-seen.ensures.0 c.if-packet-seen-ge8.false _ c.first_again-again.ensures c.if-again.false
+    way_done c.args.packet.now c.if-packet-gt65528.false _ c.find_all-seen.ensures.0 c.if-packet-seen-ge8.false c.in_default.ensures
     c.in_ok-check_items.ensures
