@@ -48,7 +48,10 @@ pub extern "C" fn keshgurvat_packet_check(p: usize, packet: &[u8]) -> u32
 pub extern "C" fn keshgurvat_settings_check(settings: Settings) -> u32
     ensures { result ≡ settings_for settings }
 {
-    settings.check()
+    match settings.check() {
+        Ok(()) => 0,
+        Err(why) => why.number(),
+    }
 }
 
 #[unsafe(no_mangle)]
