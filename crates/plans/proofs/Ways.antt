@@ -2,13 +2,14 @@
 use Prim.Native.Nat.{ℕ}
 use mathlib.Core.Path.{◌≡◌, refl, sym, ◌∙◌, ap}
 use mathlib.Core.Bool.{true, false}
-use borrow.Author.Tests.{ne_eqb}
+use borrow.Author.Tests.{eq-eqb, ne_eqb}
+use Rattle.laws.proofs.Flags.{and_false}
 use Rattle.hand.specs.Settings.{settings_for}
 use Rattle.hand.specs.Hand.{no_three, Handed, hand_for}
 use Rattle.hand.specs.declared.Three.{Three}
 use Rattle.hand.specs.declared.Settings.{Settings}
 use Rattle.hand.proofs.Allowed.{only, only_13}
-use Rattle.plans.specs.Plans.{set_with, second_of, plan_tests, plans_for, in_force, plan_hand_for, Changed, changed, change_tests, change_for}
+use Rattle.plans.specs.Plans.{alone, set_with, second_of, plan_tests, plans_for, in_force, plan_hand_for, Changed, changed, change_tests, change_for}
 use Rattle.plans.specs.declared.Plans.{Plans}
 
 -- ---- the check
@@ -37,6 +38,20 @@ module _ (g : Plans) (e : 0 ≡ settings_for g.now) where
     pub both_fit : k ≡ 0 → 0 ≡ plans_for g
     unfolding plans_for plan_tests
     both_fit h = simp (← e, w, at_second, h)
+
+-- ---- the set in force
+pub force_none : (g : Plans) (f : ℕ) → g.second.waits ≡ false → g ≡ in_force f g
+unfolding in_force
+force_none g f w = simp w
+
+pub force_other : (g : Plans) (f : ℕ) → (g.second.count ≡ f → ⊥) → g ≡ in_force f g
+unfolding in_force
+force_other g f h = simp (ne_eqb g.second.count f h, and_false g.second.waits)
+
+pub force_taken : (g : Plans) (f : ℕ) → g.second.waits ≡ true → g.second.count ≡ f → (s : Settings) → s ≡ second_of g → (r : Plans)
+    → r ≡ alone s → r ≡ in_force f g
+unfolding in_force
+force_taken g f w h s es r er = simp (w, eq-eqb g.second.count f h, er, es)
 
 -- ---- change
 module _ (g : Plans) (c n : ℕ) (share ceiling : Three) where

@@ -67,14 +67,14 @@ impl Plans {
     {
         self.now.check()?;
         if self.second.waits {
-            self.second_set().check()?;
+            let second = self.second_set();
+            second.check()?;
         }
         Ok(())
     }
 
     // The record at the frame with this count: where a set waits for it, that set is the one in force, and none waits. Counts are compared
     // for equality only, so that FFFFFFFF, 0 needs nothing.
-    #[tactic(auto, unfolding(crate::specs::Plans::in_force))]
     pub fn in_force(self, count: u32) -> Plans
         ensures { result ≡ in_force count self }
     {

@@ -70,7 +70,6 @@ pub struct Ends {
 }
 
 // 01's part of the state after a frame.
-#[tactic(auto, unfolding(crate::specs::Frame::next_from))]
 fn next_state(e: Ends, turn: usize) -> Front
     ensures { result ≡ next_from e turn }
 {

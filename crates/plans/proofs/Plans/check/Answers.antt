@@ -14,10 +14,10 @@ returns-in_err-check c =
 pub returns-in_err-check-2 : goal.returns-in_err-check-2
 returns-in_err-check-2 c =
     let p = err_from_is_err_and c.from_residual-in_err-check-2.result c.from_residual-in_err-check-2.ensures.1 in
-    rw (p.1, p.2) (second_bad _ c.in_ok-check.ensures c.if-self.true _ c.second_set.ensures (number_of c.in_err-check-2.field-0.0) c.in_err-check-2.ensures (number_ne0 _))
+    rw (p.1, p.2) (second_bad _ c.in_ok-check.ensures c.if-self.true _ c.second_set-second.ensures (number_of c.in_err-check-2.field-0.0) c.in_err-check-2.ensures (number_ne0 _))
 
 pub returns-in_ok-check-2 : goal.returns-in_ok-check-2
-returns-in_ok-check-2 c = both_fit _ c.in_ok-check.ensures c.if-self.true _ c.second_set.ensures _ c.in_ok-check-2.ensures refl
+returns-in_ok-check-2 c = both_fit _ c.in_ok-check.ensures c.if-self.true _ c.second_set-second.ensures _ c.in_ok-check-2.ensures refl
 
 pub returns-else-self : goal.returns-else-self
 returns-else-self c = none_waits _ c.in_ok-check.ensures c.if-self.false
