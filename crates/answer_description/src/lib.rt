@@ -7,7 +7,7 @@ ghost use Rattle.answer_description.specs.Values.{lengths_in, description_in};
 
 use cases::case;
 use description::{Description, Lengths, Levels};
-use places::{Part, Places};
+use places::{Part, Placement};
 use saying::Said;
 
 // Bytes that a description takes in a body.
@@ -42,54 +42,42 @@ pub fn description_at(body: &[u8], at: usize) -> Description
     }
 }
 
-fn with_lengths(said: Said, l: Lengths) -> Said {
-    saying::value(saying::value(said, l.a as u64), l.b as u64)
-}
-
-fn with_stream(said: Said, stream: [Lengths; 4], i: usize) -> Said {
-    let at = i % 4;
-    let l = stream[at];
-    with_lengths(said, l)
-}
-
-fn with_streams(said: Said, s: [Lengths; 4]) -> Said {
-    with_stream(
-        with_stream(with_stream(with_stream(said, s, 0), s, 1), s, 2),
-        s,
-        3,
-    )
-}
-
 // What was said, and the eleven values of a description.
 pub fn with_description(said: Said, d: Description) -> Said {
-    let stream = d.stream;
-    let front = saying::three(said, d.level.a as u64, d.level.b as u64, d.count as u64);
-    with_streams(front, stream)
+    let mut said = saying::three(
+        said,
+        u64::from(d.level.a),
+        u64::from(d.level.b),
+        d.count as u64,
+    );
+    for l in d.stream {
+        said = saying::value(saying::value(said, u64::from(l.a)), u64::from(l.b));
+    }
+    said
 }
 
 pub fn description_read(body: &[u8], s: &[u8]) -> Said {
-    let got = description::read(s, case::byte(body, 0));
-    let d = got.description;
-    with_description(saying::begin(got.number, 0), d)
+    let (number, d) = saying::numbered(description::read(s, case::byte(body, 0)));
+    with_description(saying::begin(number, 0), d)
 }
 
 pub fn entity_read(body: &[u8], s: &[u8]) -> Said {
-    let got = description::read_entity(s, case::byte(body, 0));
-    let d = got.description;
-    with_description(saying::one(got.number, got.version as u64), d)
+    let (number, got) = saying::numbered(description::read_entity(s, case::byte(body, 0)));
+    with_description(saying::one(number, u64::from(got.version)), got.description)
 }
 
 pub fn description_write(body: &[u8], dst: &mut [u8]) -> Said {
     let mode = case::byte(body, 19);
-    let done = description::write(description_at(body, 0), mode, dst);
-    saying::one(done.number, done.length as u64)
+    let (number, length) = saying::numbered(description::write(description_at(body, 0), mode, dst));
+    saying::one(number, length as u64)
 }
 
 pub fn entity_write(body: &[u8], dst: &mut [u8]) -> Said {
     let version = case::byte(body, 0);
     let mode = case::byte(body, 20);
-    let done = description::write_entity(version, description_at(body, 1), mode, dst);
-    saying::one(done.number, done.length as u64)
+    let d = description_at(body, 1);
+    let (number, length) = saying::numbered(description::write_entity(version, d, mode, dst));
+    saying::one(number, length as u64)
 }
 
 // The first n bytes of the text's array.
@@ -109,30 +97,35 @@ fn with_part(said: Said, x: Part) -> Said {
     saying::value(saying::value(said, x.at as u64), x.len as u64)
 }
 
-fn with_part_at(said: Said, part: [Part; 8], i: usize) -> Said {
-    let at = i % 8;
-    let x = part[at];
-    with_part(said, x)
-}
-
-fn with_half(said: Said, p: [Part; 8], k: usize) -> Said {
-    let i = k % 2 * 4;
-    with_part_at(
-        with_part_at(with_part_at(with_part_at(said, p, i), p, i + 1), p, i + 2),
-        p,
-        i + 3,
-    )
-}
-
 // The parts A, the parts B, the padding.
-fn said_places(p: Places) -> Said {
-    let part = p.part;
-    let padding = p.padding;
-    let said = saying::begin(p.number, 0);
-    with_part(with_half(with_half(said, part, 0), part, 1), padding)
+fn said_places(number: u32, p: Placement) -> Said {
+    let mut said = saying::begin(number, 0);
+    for x in p.part {
+        said = with_part(said, x);
+    }
+    with_part(said, p.padding)
+}
+
+// What stands in a body before the buffers of a frame: capacity, description, MSC mode.
+pub const FRAME: usize = 28;
+
+#[derive(Clone, Copy)]
+pub struct FrameHead {
+    pub capacity: usize,
+    pub description: Description,
+    pub mode: u8,
+}
+
+pub fn frame_head(body: &[u8]) -> FrameHead {
+    FrameHead {
+        capacity: fields::read64(body, 0) as usize,
+        description: description_at(body, 8),
+        mode: case::byte(body, 27),
+    }
 }
 
 pub fn layout(body: &[u8]) -> Said {
-    let capacity = fields::read64(body, 0) as usize;
-    said_places(places::layout(capacity, description_at(body, 8), case::byte(body, 27)))
+    let head = frame_head(body);
+    let (number, p) = saying::numbered(places::layout(head.capacity, head.description, head.mode));
+    said_places(number, p)
 }

@@ -18,35 +18,34 @@ pub fn disperse(input: &[u8], output: &mut [u8]) -> Said {
     saying::begin(number, 0)
 }
 
-fn is_width(width: u8) -> bool {
-    (width == 2) | (width == 4) | (width == 8)
-}
-
-fn number(s: &[u8], width: u8, at: usize) -> u64 {
+// The number at an offset; none of another width than 2, 4 and 8.
+fn number(s: &[u8], width: u8, at: usize) -> Option<u64> {
     match width {
-        2 => fields::read16(s, at) as u64,
-        4 => fields::read32(s, at) as u64,
-        _ => fields::read64(s, at),
+        2 => Some(u64::from(fields::read16(s, at))),
+        4 => Some(u64::from(fields::read32(s, at))),
+        8 => Some(fields::read64(s, at)),
+        _ => None,
     }
 }
 
-pub fn number_read(body: &[u8], s: &[u8]) -> Said {
+pub fn number_read(body: &[u8], s: &[u8]) -> Option<Said> {
     let width = case::byte(body, 0);
     let at = fields::read64(body, 1) as usize;
-    saying::only_if(saying::one(0, number(s, width, at)), is_width(width))
+    Some(saying::one(0, number(s, width, at)?))
 }
 
-fn store(dst: &mut [u8], width: u8, at: usize, v: u64) -> bool {
+fn store(dst: &mut [u8], width: u8, at: usize, v: u64) -> Option<bool> {
     match width {
-        2 => fields::write16(dst, at, (v % 65536) as u16),
-        4 => fields::write32(dst, at, (v % 4294967296) as u32),
-        _ => fields::write64(dst, at, v),
+        2 => Some(fields::write16(dst, at, (v % 65536) as u16)),
+        4 => Some(fields::write32(dst, at, (v % 4294967296) as u32)),
+        8 => Some(fields::write64(dst, at, v)),
+        _ => None,
     }
 }
 
-pub fn number_write(body: &[u8], dst: &mut [u8]) -> Said {
+pub fn number_write(body: &[u8], dst: &mut [u8]) -> Option<Said> {
     let width = case::byte(body, 0);
     let at = fields::read64(body, 1) as usize;
-    let done = store(dst, width, at, fields::read64(body, 9));
-    saying::only_if(saying::one(0, done as u64), is_width(width))
+    let done = store(dst, width, at, fields::read64(body, 9))?;
+    Some(saying::one(0, u64::from(done)))
 }

@@ -49,7 +49,7 @@ fn first_of(data: &[u8; 1024], n: usize) -> &[u8] {
 
 fn tell_sdc(s: Sdc, said: Said, out: &mut [u8]) -> usize {
     let size = s.head.map_or(0, |h| h.size);
-    saying::lent(out, said, first_of(&s.body, size))
+    saying::lent(out, Some(said), first_of(&s.body, size))
 }
 
 fn tell_record(r: Record, said: Said, out: &mut [u8]) -> usize {
@@ -57,36 +57,46 @@ fn tell_record(r: Record, said: Said, out: &mut [u8]) -> usize {
     tell_sdc(s, with_rest(with_block(with_front(said, r), s), r), out)
 }
 
-fn tell_read(packet: &[u8], fits: bool, out: &mut [u8]) -> usize {
-    let got = mdi::read(packet);
-    let r = got.content;
-    let said = saying::begin(got.number, got.place as u64);
-    tell_record(r, saying::only_if(said, fits), out)
+fn tell_read(packet: &[u8], out: &mut [u8]) -> usize {
+    let (said, r) = match mdi::read(packet) {
+        Ok(r) => (saying::begin(0, 0), r),
+        Err(refused) => (
+            saying::begin(refused.why.number(), refused.place),
+            record::none(),
+        ),
+    };
+    tell_record(r, said, out)
 }
 
-fn read(body: &[u8], room: &mut [u8], out: &mut [u8]) -> usize {
-    let s = case::buffer(body, 0, room);
-    tell_read(case::front(room, s.len), case::ends(s, body), out)
-}
-
-fn stream(body: &[u8], room: &mut [u8], out: &mut [u8]) -> usize {
-    let n = fields::read64(body, 0) as usize;
-    let s = case::buffer(body, 8, room);
-    let said = saying::only_if(saying::begin(0, 0), case::ends(s, body));
-    saying::lent(out, said, mdi::stream(case::front(room, s.len), n))
-}
-
-// An array, and not a slice, is handed on here: a proof need not count its bytes.
-fn answer_in(call: u8, body: &[u8], room: &mut [u8; 131072], out: &mut [u8]) -> usize {
-    match call {
-        40 => read(body, room, out),
-        41 => stream(body, room, out),
-        _ => answer::none(out),
+// The packet that stands at a position of the body, and nothing behind it.
+fn packet_at<'a>(body: &[u8], at: usize, room: &'a mut [u8]) -> Option<&'a [u8]> {
+    let s = case::buffer(body, at, room)?;
+    if case::ends(Some(s), body) {
+        Some(case::front(room, s.len))
+    } else {
+        None
     }
+}
+
+fn read(body: &[u8], out: &mut [u8]) -> Option<usize> {
+    let mut room = [0u8; case::BUFFER];
+    let packet = packet_at(body, 0, &mut room)?;
+    Some(tell_read(packet, out))
+}
+
+fn stream(body: &[u8], out: &mut [u8]) -> Option<usize> {
+    let mut room = [0u8; case::BUFFER];
+    let packet = packet_at(body, 8, &mut room)?;
+    let n = fields::read64(body, 0) as usize;
+    Some(saying::lent(out, Some(saying::begin(0, 0)), mdi::stream(packet, n)))
 }
 
 // The answer to a case of this group, at the front of out.
 pub fn answer(call: u8, body: &[u8], out: &mut [u8]) -> usize {
-    let mut room = [0u8; case::BUFFER];
-    answer_in(call, body, &mut room, out)
+    let size = match call {
+        40 => read(body, out),
+        41 => stream(body, out),
+        _ => None,
+    };
+    answer::or_none(out, size)
 }

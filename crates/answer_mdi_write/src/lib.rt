@@ -52,10 +52,10 @@ fn record_in(body: &[u8], at: usize, data: [u8; 1024]) -> Record {
 fn written(r: Record, rooms: &[u8], f: Four, dst: &mut [u8]) -> Said {
     let (number, length) = saying::numbered(mdi_write::write(
         r,
-        answer_frame::quarter(rooms, 0, f.a),
-        answer_frame::quarter(rooms, 1, f.b),
-        answer_frame::quarter(rooms, 2, f.c),
-        answer_frame::quarter(rooms, 3, f.d),
+        answer_frame::quarter(rooms, 0, f.len[0]),
+        answer_frame::quarter(rooms, 1, f.len[1]),
+        answer_frame::quarter(rooms, 2, f.len[2]),
+        answer_frame::quarter(rooms, 3, f.len[3]),
         dst,
     ));
     saying::one(number, length as u64)
@@ -68,36 +68,38 @@ fn write_to(
     f: Four,
     room: &mut [u8],
     out: &mut [u8],
-) -> usize {
-    let s = case::buffer(body, f.next, room);
+) -> Option<usize> {
+    let s = case::buffer(body, f.next, room)?;
     let dst = case::front_mut(room, s.len);
     let said = written(r, rooms, f, dst);
-    saying::lent(out, saying::only_if(said, case::ends(s, body)), dst)
+    let said = saying::only_if(Some(said), case::ends(Some(s), body));
+    Some(saying::lent(out, said, dst))
 }
 
-// The streams stand behind the description, the robustness, a mark and a timestamp.
+// The SDC data stand behind count, FAC, mark, AFS index and number of data bytes; the streams behind the description, the robustness, a mark
+// and a timestamp.
+// Arrays, and not slices, are handed on here: a proof need not count their bytes.
 fn write_in(
     body: &[u8],
-    at: usize,
-    data: [u8; 1024],
+    data: &mut [u8; 1024],
     rooms: &mut [u8; 524288],
     room: &mut [u8; 131072],
     out: &mut [u8],
-) -> usize {
-    let f = answer_frame::four_at(body, case::past(at, 33), rooms);
-    write_to(record_in(body, at, data), body, rooms, f, room, out)
+) -> Option<usize> {
+    let sdc = take_data(body, data)?;
+    let f = answer_frame::four_at(body, case::past(sdc.next, 33), rooms)?;
+    write_to(record_in(body, sdc.next, *data), body, rooms, f, room, out)
 }
 
-// The SDC data, behind count, FAC, mark, AFS index and number of data bytes.
-fn take_data(body: &[u8], data: &mut [u8; 1024]) -> Taken {
+fn take_data(body: &[u8], data: &mut [u8]) -> Option<Taken> {
     case::buffer(body, 35, data)
 }
 
-fn write(body: &[u8], room: &mut [u8; 131072], out: &mut [u8]) -> usize {
+fn write(body: &[u8], out: &mut [u8]) -> Option<usize> {
     let mut data = [0u8; 1024];
     let mut rooms = [0u8; 524288];
-    let s = take_data(body, &mut data);
-    write_in(body, s.next, data, &mut rooms, room, out)
+    let mut room = [0u8; case::BUFFER];
+    write_in(body, &mut data, &mut rooms, &mut room, out)
 }
 
 // A record with the count and the time at a position of the body. Of the rest nothing is looked at.
@@ -117,21 +119,17 @@ fn said_follows(body: &[u8]) -> Said {
     saying::one(number, u64::from(yes))
 }
 
-fn follows(body: &[u8], out: &mut [u8]) -> usize {
-    saying::alone(out, saying::only_if(said_follows(body), body.len() == 34))
-}
-
-// An array, and not a slice, is handed on here: a proof need not count its bytes.
-fn answer_in(call: u8, body: &[u8], room: &mut [u8; 131072], out: &mut [u8]) -> usize {
-    match call {
-        42 => write(body, room, out),
-        45 => follows(body, out),
-        _ => answer::none(out),
-    }
+fn follows(body: &[u8], out: &mut [u8]) -> Option<usize> {
+    let said = saying::only_if(Some(said_follows(body)), body.len() == 34);
+    Some(saying::alone(out, said))
 }
 
 // The answer to a case of this group, at the front of out.
 pub fn answer(call: u8, body: &[u8], out: &mut [u8]) -> usize {
-    let mut room = [0u8; case::BUFFER];
-    answer_in(call, body, &mut room, out)
+    let size = match call {
+        42 => write(body, out),
+        45 => follows(body, out),
+        _ => None,
+    };
+    answer::or_none(out, size)
 }

@@ -2,7 +2,7 @@
 // call, and a function of one of the libraries below says what came back. A new call is such a function, its form, and a line of `say`.
 #![tactic(auto)]
 
-use cases::case;
+use cases::{answer, case};
 use saying::Said;
 
 // Bytes before the first buffer and between the two; and which buffers there are: one to read, one that is lent to write to.
@@ -14,73 +14,43 @@ struct Form {
     lends: bool,
 }
 
-fn bare(head: usize) -> Form {
-    Form {
-        head,
-        gap: 0,
-        reads: false,
-        lends: false,
-    }
-}
-
-fn reads(head: usize) -> Form {
-    Form {
-        head,
-        gap: 0,
-        reads: true,
-        lends: false,
-    }
-}
-
-fn writes(head: usize) -> Form {
-    Form {
-        head,
-        gap: 0,
-        reads: false,
-        lends: true,
-    }
-}
-
-fn pair(head: usize, gap: usize) -> Form {
+fn form_of(call: u8) -> Form {
+    let (head, reads, lends) = match call {
+        14 => (28, false, false),
+        22 => (12, false, false),
+        23 => (24, false, false),
+        28 => (8, false, false),
+        33 => (64, false, false),
+        34 => (96, false, false),
+        1 | 2 | 21 | 24 | 43 => (0, true, false),
+        10 | 12 => (1, true, false),
+        25 | 30 => (8, true, false),
+        4 => (9, true, false),
+        26 => (0, false, true),
+        20 => (12, false, true),
+        5 => (17, false, true),
+        11 => (20, false, true),
+        13 | 44 => (21, false, true),
+        32 => (12, true, true),
+        _ => (0, true, true),
+    };
+    let gap = if call == 27 { 8 } else { 0 };
     Form {
         head,
         gap,
-        reads: true,
-        lends: true,
-    }
-}
-
-fn form_of(call: u8) -> Form {
-    match call {
-        14 => bare(28),
-        22 => bare(12),
-        23 => bare(24),
-        28 => bare(8),
-        33 => bare(64),
-        34 => bare(96),
-        1 | 2 | 21 | 24 | 43 => reads(0),
-        10 | 12 => reads(1),
-        25 | 30 => reads(8),
-        4 => reads(9),
-        26 => writes(0),
-        20 => writes(12),
-        5 => writes(17),
-        11 => writes(20),
-        13 | 44 => writes(21),
-        32 => pair(12, 0),
-        27 => pair(0, 8),
-        _ => pair(0, 0),
+        reads,
+        lends,
     }
 }
 
 // What a call says. The body goes on at `between` behind the buffer that it reads.
-fn say(call: u8, body: &[u8], between: usize, s: &[u8], dst: &mut [u8]) -> Said {
-    match call {
+fn say(call: u8, body: &[u8], between: usize, s: &[u8], dst: &mut [u8]) -> Option<Said> {
+    let said = match call {
         1 => answer_leaves::crc8(s),
         2 => answer_leaves::crc16(s),
         3 => answer_leaves::disperse(s, dst),
-        4 => answer_leaves::number_read(body, s),
-        5 => answer_leaves::number_write(body, dst),
+        4 => answer_leaves::number_read(body, s)?,
+        5 => answer_leaves::number_write(body, dst)?,
         10 => answer_description::description_read(body, s),
         11 => answer_description::description_write(body, dst),
         12 => answer_description::entity_read(body, s),
@@ -102,20 +72,29 @@ fn say(call: u8, body: &[u8], between: usize, s: &[u8], dst: &mut [u8]) -> Said 
         34 => answer_hand::hand_out(body),
         43 => answer_fac::fac_read(s),
         44 => answer_fac::fac_write(body, dst),
-        _ => saying::only_if(saying::begin(0, 0), false),
-    }
+        _ => return None,
+    };
+    Some(said)
+}
+
+// What the call says, and how many bytes are lent to it at the front of the second room; none where the case is none.
+fn said_in(call: u8, body: &[u8], one: &mut [u8], two: &mut [u8]) -> Option<(Said, usize)> {
+    let f = form_of(call);
+    let s = case::buffer_if(f.reads, body, f.head, one, 0)?;
+    let t = case::buffer_if(f.lends, body, case::past(s.next, f.gap), two, 0);
+    let dst = case::front_mut(two, t?.len);
+    let said = say(call, body, s.next, case::front(one, s.len), dst);
+    Some((saying::only_if(said, case::ends(t, body))?, t?.len))
 }
 
 fn plain(call: u8, body: &[u8], out: &mut [u8]) -> usize {
     let mut one = [0u8; case::BUFFER];
     let mut two = [0u8; case::BUFFER];
-    let f = form_of(call);
-    let s = case::buffer_if(f.reads, body, f.head, &mut one, 0);
-    let t = case::buffer_if(f.lends, body, case::past(s.next, f.gap), &mut two, 0);
-    let dst = case::front_mut(&mut two, t.len);
-    let said = say(call, body, s.next, case::front(&one, s.len), dst);
-    let said = saying::only_if(said, s.whole & case::ends(t, body));
-    saying::some(out, said, f.lends as u8, dst, body)
+    let Some((said, n)) = said_in(call, body, &mut one, &mut two) else {
+        return answer::none(out);
+    };
+    let dst = case::front(&two, n);
+    saying::some(out, Some(said), u8::from(form_of(call).lends), dst, body)
 }
 
 // The call that gives back a part of what it reads has a form of its own.

@@ -1,5 +1,5 @@
 // How an answer is written down: number, place, values, and each lent buffer as it is after the call.
-ghost use Rattle.std.specs.Prelude.{◌≡◌, ◌+◌, ◌<◌, ◌≤◌, min};
+ghost use Rattle.std.specs.Prelude.{◌≡◌, ◌+◌, ◌<◌, ◌≤◌, min, MatchOption};
 
 use crate::case;
 
@@ -12,8 +12,8 @@ fn put(out: &mut [u8], at: usize, x: u8) {
     }
 }
 
-fn narrow(n: usize) -> u32 {
-    (n % 4294967296) as u32
+fn put_length(out: &mut [u8], at: usize, n: usize) {
+    fields::write32(out, at, (n % 4294967296) as u32);
 }
 
 // Begins the answer of a call that gives back `values` values. Answers where the first of them goes.
@@ -34,39 +34,22 @@ pub fn buffers(out: &mut [u8], at: usize, n: u8) -> usize
     case::past(at, 1)
 }
 
-fn put_all(out: &mut [u8], at: usize, s: &[u8]) {
-    let mut i = 0;
-    while i < s.len() {
-        put(out, case::past(at, i), s[i]);
-        i += 1;
-    }
-}
-
-fn wide(x: u8) -> u32 {
-    x as u32
-}
-
 // The sum of the bytes, modulo 2^32.
 pub fn sum(s: &[u8]) -> u32
     ensures { result < 4294967296 }
 {
-    let mut total: u32 = 0;
-    let mut i = 0;
-    while i < s.len() {
-        total = std::num::wrapping_add_u32(total, wide(s[i]));
-        i += 1;
-    }
-    total
+    s.iter()
+        .fold(0u32, |total, &x| total.wrapping_add(u32::from(x)))
 }
 
 // One buffer: its length, and its bytes, or where it is long its CRC-16 and the sum of its bytes.
 pub fn buffer(out: &mut [u8], at: usize, s: &[u8]) -> usize
     ensures { result ≤ 1048576 }
 {
-    fields::write32(out, at, narrow(s.len()));
+    put_length(out, at, s.len());
     let start = case::past(at, 4);
     if s.len() <= FULL {
-        put_all(out, start, s);
+        moves::copy(s, out, start);
         return case::past(start, s.len());
     }
     fields::write16(out, start, crc::crc16(s));
@@ -82,6 +65,16 @@ pub fn none(out: &mut [u8]) -> usize
     4
 }
 
+// The answer of so many bytes, or that to what is no case.
+pub fn or_none(out: &mut [u8], size: Option<usize>) -> usize
+    ensures { MatchOption size (result ≡ 4) (λ n. result ≡ n) }
+{
+    match size {
+        Some(n) => n,
+        None => none(out),
+    }
+}
+
 // Ends the answer: its size goes to its front. Answers the bytes of all.
 pub fn end(out: &mut [u8], at: usize) -> usize
     ensures { result ≤ at }
@@ -89,6 +82,6 @@ pub fn end(out: &mut [u8], at: usize) -> usize
     if at < 4 {
         return 0;
     }
-    fields::write32(out, 0, narrow(at - 4));
+    put_length(out, 0, at - 4);
     at
 }

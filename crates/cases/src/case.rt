@@ -1,10 +1,9 @@
 // What a case's body holds: numbers, and buffers in their two forms.
-ghost use Rattle.std.specs.Prelude.{◌≡◌, ◌+◌, ◌<◌, ◌≤◌, min, ◌&&◌, length, ◌==◌, slice_index};
+ghost use Rattle.std.specs.Prelude.{◌≡◌, ◌↔◌, ◌+◌, ◌≤◌, min, length, slice_index, IfSome, IsSomeAnd, IsTrue};
 
 // A buffer that was read: its bytes stand at the front of the slice that it was read into. next is where the body goes on.
 #[derive(Clone, Copy)]
 pub struct Taken {
-    pub whole: bool,
     pub len: usize,
     pub next: usize,
 }
@@ -23,127 +22,74 @@ const FAR: usize = 1048576;
 pub fn past(at: usize, n: usize) -> usize
     ensures { result ≡ min (at + n) 1048576 }
 {
-    if FAR <= at {
-        return FAR;
-    }
-    if FAR <= n {
-        return FAR;
-    }
-    if at + n < FAR { at + n } else { FAR }
-}
-
-pub fn wide(x: u32) -> usize
-    ensures { result ≡ x }
-{
-    x as usize
+    at.saturating_add(n).min(FAR)
 }
 
 // The byte at a position, 0 past the end.
 pub fn byte(s: &[u8], at: usize) -> u8
     ensures { result ≡ slice_index s.now at }
 {
-    if at < s.len() { s[at] } else { 0 }
-}
-
-fn wide64(x: u32) -> u64
-    ensures { result < 4294967296 }
-{
-    x as u64
+    s.get(at).copied().unwrap_or(0)
 }
 
 // The made-up bytes of a buffer of kind 1.
 fn make(seed: u32, into: &mut [u8]) {
     let mut x = seed;
-    let mut i = 0;
-    while i < into.len() {
-        x = ((wide64(x) * 1664525 + 1013904223) % 4294967296) as u32;
-        into[i] = (x / 16777216 % 256) as u8;
-        i += 1;
+    for b in into.iter_mut() {
+        x = x.wrapping_mul(1664525).wrapping_add(1013904223);
+        let [high, ..] = x.to_be_bytes();
+        *b = high;
     }
 }
 
-// The bytes of s, to the front of into.
-fn copy(s: &[u8], into: &mut [u8]) {
-    let mut i = 0;
-    while i < s.len() && i < into.len() {
-        into[i] = s[i];
-        i += 1;
-    }
-}
-
-// Where a buffer does not stand whole in the body, or is longer than into.
-fn none(body: &[u8]) -> Taken
-    ensures { result.len ≡ 0 }
-{
-    Taken {
-        whole: false,
-        len: 0,
-        next: body.len(),
-    }
-}
-
-// Reads the buffer at a position of the body into the front of a slice.
-pub fn buffer(body: &[u8], at: usize, into: &mut [u8]) -> Taken
-    ensures { result.len ≤ length into.new }
+// Reads the buffer at a position of the body into the front of a slice; none where it does not stand whole in the body, or is longer
+// than the slice.
+pub fn buffer(body: &[u8], at: usize, into: &mut [u8]) -> Option<Taken>
+    ensures { IfSome result (λ t. t.len ≤ length into.new) }
 {
     let start = past(at, 5);
-    let len = wide(fields::read32(body, past(at, 1)));
-    if body.len() < start {
-        return none(body);
-    }
+    let len = fields::read32(body, past(at, 1)) as usize;
     if into.len() < len {
-        return none(body);
+        return None;
     }
-    let kind = byte(body, at);
-    if 1 < kind {
-        return none(body);
-    }
-    if kind == 0 {
-        let next = past(start, len);
-        if body.len() < next {
-            return none(body);
+    let held = body.get(start..)?;
+    match byte(body, at) {
+        0 => {
+            let bytes = held.get(..len)?;
+            into[..len].copy_from_slice(bytes);
+            let next = past(start, len);
+            Some(Taken { len, next })
         }
-        copy(&body[start..], &mut into[0..len]);
-        return Taken {
-            whole: true,
-            len,
-            next,
-        };
-    }
-    let next = past(start, 4);
-    if body.len() < next {
-        return none(body);
-    }
-    make(fields::read32(body, start), &mut into[0..len]);
-    Taken {
-        whole: true,
-        len,
-        next,
+        1 => {
+            if held.len() < 4 {
+                return None;
+            }
+            make(fields::read32(held, 0), &mut into[..len]);
+            let next = past(start, 4);
+            Some(Taken { len, next })
+        }
+        _ => None,
     }
 }
 
 // The buffer at a position of the body, where the call is handed one; else the first len bytes of the slice, as they are.
-pub fn buffer_if(has: bool, body: &[u8], at: usize, into: &mut [u8], len: usize) -> Taken
-    ensures { result.len ≤ length into.new }
+pub fn buffer_if(has: bool, body: &[u8], at: usize, into: &mut [u8], len: usize) -> Option<Taken>
+    ensures { IfSome result (λ t. t.len ≤ length into.new) }
 {
     if has {
         return buffer(body, at, into);
     }
     if into.len() < len {
-        return none(body);
+        return None;
     }
-    Taken {
-        whole: true,
-        len,
-        next: at,
-    }
+    Some(Taken { len, next: at })
 }
 
 // The buffer stands whole in the body, and is the last thing in it.
-pub fn ends(t: Taken, body: &[u8]) -> bool
-    ensures { result ≡ (t.whole && t.next == length body.now) }
+pub fn ends(t: Option<Taken>, body: &[u8]) -> bool
+    ensures { IsTrue result ↔ IsSomeAnd t (λ whole. whole.next ≡ length body.now) }
 {
-    t.whole & (t.next == body.len())
+    t.is_some_and(|whole| whole.next == body.len())
 }
 
 // The first n bytes of s, or none where it has fewer.
@@ -151,16 +97,16 @@ pub fn front(s: &[u8], n: usize) -> &[u8]
     ensures { length result.now ≤ n }
 {
     if s.len() < n {
-        return &s[0..0];
+        return &s[..0];
     }
-    &s[0..n]
+    &s[..n]
 }
 
 pub fn front_mut(s: &mut [u8], n: usize) -> &mut [u8]
     ensures { length result.now ≤ n }
 {
     if s.len() < n {
-        return &mut s[0..0];
+        return &mut s[..0];
     }
-    &mut s[0..n]
+    &mut s[..n]
 }

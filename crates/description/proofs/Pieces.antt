@@ -1,5 +1,5 @@
 -- The bytes of a value, piece by piece: the first byte, the three bytes of a stream, and the streams one behind the other. Assumes nothing.
-use mathlib.Core.Path.{◌≡◌, refl, ◌∙◌}
+use mathlib.Core.Path.{◌≡◌, refl, ap₂, ◌∙◌}
 use mathlib.Core.List.{List, [], ◌∷◌}
 use Prim.Native.Nat.{ℕ, ◌+◌, ◌*◌, ◌/◌, ◌%◌, ◌≤◌, ◌<◌}
 use native.Mathlib.Nat.{div-one, add-zero}
@@ -7,6 +7,8 @@ use native.Mathlib.Omega.{arith}
 use borrow.Author.Tests.{lt-leb, le-leb}
 use lib.ListN.{length, get_or, take, drop, set, length-drop}
 use lib.Seq.{get_or-drop}
+use Rattle.std.specs.Option.{unwrap_or}
+use Rattle.std.specs.List.{slice_get}
 use Rattle.laws.specs.Big.{bytes_of, big_of}
 use Rattle.laws.specs.Written.{written}
 use Rattle.laws.proofs.Table.{take_tab}
@@ -15,15 +17,14 @@ use Rattle.description.specs.Bytes.{length_bytes, lengths_of, slot_at, no_stream
 use Rattle.description.specs.declared.Lengths.{Lengths}
 
 -- the first byte
-pub first_none : (s : List ℕ) → length s ≡ 0 → 0 ≡ big_of (take 1 s)
+pub first_is : (s : List ℕ) → unwrap_or (slice_get s 0) 0 ≡ big_of (take 1 s)
 unfolding big_of
-first_none [] e = refl
-first_none (x ∷ s) e = absurd (omega arith)
+first_is [] = refl
+first_is (x ∷ s) = omega arith
 
-pub first_some : (s : List ℕ) → (length s ≡ 0 → ⊥) → get_or s 0 0 ≡ big_of (take 1 s)
-unfolding big_of
-first_some [] n = absurd (n refl)
-first_some (x ∷ s) n = omega arith
+-- lengths are their two numbers
+pub lengths_are : (l : Lengths) (a b : ℕ) → l.a ≡ a → l.b ≡ b → l ≡ record { a = a; b = b }
+lengths_are l a b e f = ap₂ (λ (m n : ℕ). record { a = m; b = n }) e f
 
 -- the three bytes of a stream at an offset
 pub slot_none : (v : List ℕ) (at : ℕ) (l : Lengths) → l ≡ no_stream → length v < at + 3 → l ≡ slot_at v at

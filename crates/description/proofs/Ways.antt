@@ -1,19 +1,27 @@
 -- What the readers answer, and the tests that they share with the writers, by the way taken through them. Assumes nothing.
-use mathlib.Core.Path.{◌≡◌, refl}
+use mathlib.Core.Path.{◌≡◌, refl, ◌∙◌}
 use mathlib.Core.Bool.{Bool, true, false, not, ◌||◌}
 use mathlib.Core.List.{List, [], ◌∷◌}
 use Prim.Native.Nat.{ℕ, ◌≤◌, ◌<◌, ◌-◌, ◌*◌, ◌/◌}
 use native.Mathlib.Omega.{arith}
 use borrow.Author.Tests.{lt-ltb, le-ltb, ne_eqb}
 use lib.Dec.{ltb, eqb}
-use lib.ListN.{length, take, drop, length-drop}
+use lib.ListN.{length, drop, length-drop}
 use lib.Seq.{take_all}
+use Rattle.std.specs.Prelude.{Result, Ok, Err, IfOk, Option, Some, None}
+use Rattle.std.specs.Option.{unwrap_or}
+use Rattle.std.specs.Slice.{IsGetRangeResult}
+use denote.Bor.{Bor}
+use mathlib.Core.Logic.{⊎_elim}
+use Rattle.refusal.specs.declared.Refusal.{Refusal}
+use Rattle.refusal.specs.Refusal.{number_of, number_in}
+use Rattle.refusal.proofs.Numbers.{number_ne0}
 use Rattle.laws.specs.Limits.{longest}
 use Rattle.laws.specs.Refuse.{refused_with}
 use Rattle.description.specs.declared.Description.{Description}
 use Rattle.description.specs.Bytes.{nothing, described_by}
 use Rattle.description.specs.WellFormed.{is_too_large, ill_formed}
-use Rattle.description.specs.Answers.{value_length, unserved, reading_tests, read_tests, read_for, length_in, version_in, type_in, wrong_head, read_entity_tests, read_entity_for, handed}
+use Rattle.description.specs.Answers.{value_length, unserved, reading_tests, read_tests, described_in, read_for, length_in, version_in, type_in, wrong_head, read_entity_tests, read_entity_for, handed}
 
 module _ (long head : Bool) (v : List ℕ) (mode : ℕ) where
   pub read_1 : long ≡ true → 1 ≡ refused_with (reading_tests long head v mode)
@@ -67,34 +75,32 @@ module _ (large : Bool) (d : Description) (mode : ℕ) (t : Bool) (e : t ≡ is_
 
 pub ruleset handing = (handed_6, handed_9, handed_10, handed_0)
 
-module _ (v : List ℕ) (mode n : ℕ) (e : n ≡ refused_with (reading_tests (ltb longest (length v)) false v mode)) (d : Description) where
-  pub read_refused : (n ≡ 0 → ⊥) → d ≡ nothing → record { number = n; description = d } ≡ read_for v mode
-  unfolding read_for read_tests
-  read_refused z h = rw (← e, ne_eqb n 0 z, h)
-
-  pub read_done : n ≡ 0 → d ≡ described_by v → record { number = 0; description = d } ≡ read_for v mode
-  unfolding read_for read_tests
-  read_done z h = rw (← e, z, h)
+pub read_told : (v : List ℕ) (mode : ℕ) (r : Result Description Refusal)
+    → number_in r ≡ refused_with (reading_tests (ltb longest (length v)) false v mode) → IfOk r (λ d. d ≡ described_by v)
+    → described_in r ≡ read_for v mode
+unfolding read_for read_tests
+read_told v mode (Ok d) e h = rw (← e, h) refl
+read_told v mode (Err r) e h = rw (← e, ne_eqb (number_of r) 0 (number_ne0 r)) refl
 
 -- an entity
-pub no_rest : (s : List ℕ) → length s ≡ 0 → [] ≡ drop 1 s
-no_rest [] e = refl
-no_rest (x ∷ s) e = absurd (omega arith)
-
-pub all_rest : (s : List ℕ) → take (length s - 1) (drop 1 s) ≡ drop 1 s
-all_rest s = take_all (length s - 1) (drop 1 s) (simp length-drop (omega arith))
+pub rest_is : (s : List ℕ) (o : Option (Bor (List ℕ))) (none : Bor (List ℕ)) → none.now ≡ [] → IsGetRangeResult s 1 (length s) o
+    → (unwrap_or o none).now ≡ drop 1 s
+rest_is s (Some r) none e h = h.0.2 ∙ take_all (length s - 1) (drop 1 s) (simp length-drop (omega arith))
+rest_is [] None none e h = e
+rest_is (x ∷ s) None none e h = absurd (⊎_elim (λ k. omega arith) (λ k. omega arith) h.0)
 
 pub head_is : (s v : List ℕ) (l t : ℕ) → v ≡ drop 1 s → l ≡ length_in s → t ≡ type_in v
     → (not (eqb l (3 * (length v / 3))) || not (eqb t 0)) ≡ wrong_head s
 unfolding wrong_head
 head_is s v l t e f g = rw (g, f, e)
 
-module _ (s v : List ℕ) (mode n : ℕ) (w : Bool) (h : w ≡ wrong_head s) (p : v ≡ drop 1 s)
-    (e : n ≡ refused_with (reading_tests (ltb longest (length s)) w v mode)) (x : ℕ) (d : Description) where
-  pub entity_refused : (n ≡ 0 → ⊥) → d ≡ nothing → record { number = n; version = 0; description = d } ≡ read_entity_for s mode
+module _ (s v : List ℕ) (mode : ℕ) (w : Bool) (h : w ≡ wrong_head s) (p : v ≡ drop 1 s) where
+  pub entity_refused : (r : Refusal) → number_of r ≡ refused_with (reading_tests (ltb longest (length s)) w v mode)
+      → record { number = number_of r; version = 0; description = nothing } ≡ read_entity_for s mode
   unfolding read_entity_for read_entity_tests
-  entity_refused z k = rw (← p, ← h, ← e, ne_eqb n 0 z, k)
+  entity_refused r e = rw (← p, ← h, ← e, ne_eqb (number_of r) 0 (number_ne0 r)) refl
 
-  pub entity_done : n ≡ 0 → x ≡ version_in s → d ≡ described_by v → record { number = 0; version = x; description = d } ≡ read_entity_for s mode
+  pub entity_done : 0 ≡ refused_with (reading_tests (ltb longest (length s)) w v mode) → (x : ℕ) (d : Description)
+      → x ≡ version_in s → d ≡ described_by v → record { number = 0; version = x; description = d } ≡ read_entity_for s mode
   unfolding read_entity_for read_entity_tests
-  entity_done z y k = rw (← p, ← h, ← e, z, y, k)
+  entity_done e x d y k = rw (← p, ← h, ← e, y, k)

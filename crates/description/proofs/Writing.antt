@@ -9,7 +9,7 @@ use native.Mathlib.Omega.{arith}
 use borrow.Author.Tests.{lt-ltb, le-ltb, ltb-false, ne_eqb}
 use lib.Dec.{ltb, eqb, lit<}
 use lib.ListN.{length, get_or, take, set, length-append}
-use lib.Seq.{take-suc, length-take-le}
+use lib.Seq.{take-suc, take_all, length-take-le}
 use Rattle.laws.specs.Big.{bytes_of}
 use Rattle.laws.specs.Pick.{pick}
 use Rattle.laws.specs.Refuse.{Test, test, refused_with}
@@ -18,7 +18,7 @@ use Rattle.laws.proofs.Refuse.{free}
 use Rattle.laws.proofs.Written.{set_written, write_next}
 use Rattle.description.specs.declared.Lengths.{Lengths}
 use Rattle.description.specs.declared.Description.{Description}
-use Rattle.description.specs.Bytes.{no_stream, length_bytes, stream_bytes, value_of, entity_of}
+use Rattle.description.specs.Bytes.{no_stream, streams, length_bytes, stream_bytes, value_of, entity_of}
 use Rattle.description.specs.WellFormed.{is_too_large, wrong_count, wrong_slots, wrong_level, wrong_mode, ill_formed}
 use Rattle.description.specs.Answers.{unserved, handed, value_size, writing_tests, write_tests, write_for, output_for, write_entity_tests, write_entity_for, entity_output_for}
 
@@ -109,15 +109,14 @@ stream_turn d e f at s i l h fits p q r =
 
 -- the first byte, and the streams behind it
 pub value_written : (d e : List ℕ) (at x y i : ℕ) (v : Description) → at + value_size v ≤ length d → x ≡ v.level.a → y ≡ v.level.b
-    → i ≤ v.count → v.count ≤ i → e ≡ written (set d at ((x * 4 + y) % 256)) (at + 1) (stream_bytes (take i v.stream))
+    → length (streams v) ≤ i → e ≡ written (set d at ((x * 4 + y) % 256)) (at + 1) (stream_bytes (take i (streams v)))
     → e ≡ written d at (value_of v)
 unfolding value_of bytes_of
-value_written d e at x y i v fits p q l m r =
-    let n : i ≡ v.count = omega arith in
+value_written d e at x y i v fits p q m r =
     let b = (x * 4 + y) % 256 in
     let k : (0 * 16 + (v.level.a * 4 + (v.level.b * 1 + 0))) / 1 % 256 ≡ (x * 4 + y) % 256 = rw (div-one, p, q) (omega arith) in
-    r ∙ write_next d (set d at b) at (b ∷ []) (stream_bytes (take i v.stream)) (at + 1) refl (omega arith) (set_written d at b (omega arith))
-    ∙ rw (k, n)
+    r ∙ write_next d (set d at b) at (b ∷ []) (stream_bytes (take i (streams v))) (at + 1) refl (omega arith) (set_written d at b (omega arith))
+    ∙ rw (k, take_all i (streams v) m) refl
 
 -- nothing refused: the bytes have room
 pub writable : (large : Bool) (d : Description) (mode size room n : ℕ) → n ≡ refused_with (writing_tests large d mode size room) → n ≡ 0
@@ -139,10 +138,10 @@ module _ (d : Description) (mode n : ℕ) (out : List ℕ) (e : n ≡ refused_wi
   unfolding write_for output_for
   write_refused z = rw (same, ne_eqb n 0 z) (refl, refl)
 
-  pub write_done : n ≡ 0 → (r : List ℕ) → r ≡ written out 0 (value_of d)
-      → (record { number = 0; length = 1 + 3 * d.count } ≡ write_for d mode out) × (r ≡ output_for d mode out)
+  pub write_done : n ≡ 0 → (size : ℕ) → size ≡ 0 + value_size d → (r : List ℕ) → r ≡ written out 0 (value_of d)
+      → (record { number = 0; length = size } ≡ write_for d mode out) × (r ≡ output_for d mode out)
   unfolding write_for output_for
-  write_done z r h = rw (same, z) (refl, h)
+  write_done z size k r h = rw (same, z, k, zero-add (value_size d)) (refl, h)
 
 module _ (version : ℕ) (d : Description) (mode n : ℕ) (out : List ℕ)
     (e : n ≡ refused_with (writing_tests (ltb 1 version) d mode (1 + value_size d) (length out))) where
@@ -151,12 +150,12 @@ module _ (version : ℕ) (d : Description) (mode n : ℕ) (out : List ℕ)
   unfolding write_entity_for entity_output_for write_entity_tests
   entity_refused z = rw (← e, ne_eqb n 0 z) (refl, refl)
 
-  pub entity_done : n ≡ 0 → (r : List ℕ) → r ≡ written (set out 0 (6 * d.count + version)) 1 (value_of d)
-      → (record { number = 0; length = 1 + (1 + 3 * d.count) } ≡ write_entity_for version d mode out) × (r ≡ entity_output_for version d mode out)
+  pub entity_done : n ≡ 0 → (size : ℕ) → size ≡ 1 + value_size d → (r : List ℕ) → r ≡ written (set out 0 (6 * d.count + version)) 1 (value_of d)
+      → (record { number = 0; length = size } ≡ write_entity_for version d mode out) × (r ≡ entity_output_for version d mode out)
   unfolding write_entity_for entity_output_for write_entity_tests entity_of bytes_of
-  entity_done z r h =
+  entity_done z size s r h =
       let w = writable (ltb 1 version) d mode (1 + value_size d) (length out) n e z in
       let v : version ≤ 1 = ltb-false 1 version w.2 in
       let x = 6 * d.count + version in
       let k : (3 * d.count * 2 + (version * 1 + 0)) / 1 % 256 ≡ 6 * d.count + version = rw div-one (omega arith) in
-      rw (← e, z, k) (refl, h ∙ write_next out (set out 0 x) 0 (x ∷ []) (value_of d) 1 refl (omega arith) (set_written out 0 x (omega arith)))
+      rw (← e, z, k, s) (refl, h ∙ write_next out (set out 0 x) 0 (x ∷ []) (value_of d) 1 refl (omega arith) (set_written out 0 x (omega arith)))

@@ -1,16 +1,35 @@
 -- What the calls answer (01, "Numbers given back"). Assumes nothing.
-use Rattle.std.specs.Prelude.{ℕ, ◌+◌, ◌*◌, ◌/◌, Bool, false, not, ◌||◌, List, [], ◌∷◌, eqb, ltb, length, get_or, take, drop}
+use Rattle.std.specs.Prelude.{ℕ, ◌+◌, ◌*◌, ◌/◌, Bool, Result, Ok, Err, false, not, ◌||◌, List, [], ◌∷◌, eqb, ltb, length, get_or, take, drop}
 use Rattle.laws.specs.Limits.{longest}
 use Rattle.laws.specs.Pick.{pick}
 use Rattle.laws.specs.Refuse.{Test, test, refused_with}
 use Rattle.laws.specs.Written.{written}
 use Rattle.description.specs.declared.Description.{Description}
-use Rattle.description.specs.declared.Described.{Described}
-use Rattle.description.specs.declared.Entity.{Entity}
-use Rattle.moves.specs.declared.Wrote.{Wrote}
-use Rattle.moves.specs.Wrote.{wrote_of}
+use Rattle.description.specs.declared.Versioned.{Versioned}
+use Rattle.refusal.specs.declared.Refusal.{Refusal}
+use Rattle.refusal.specs.Refusal.{number_of}
+use Rattle.moves.specs.Wrote.{Wrote, wrote_of}
 use Rattle.description.specs.Bytes.{head_bits, level_bits, fields_in, value_of, entity_of, nothing, described_by}
 use Rattle.description.specs.WellFormed.{is_too_large, ill_formed}
+
+-- the answer of a reader in 01's terms: its number, and the description read, that of no stream where it is refused
+pub record Described : Type 0 where
+  pub number : ℕ
+  pub description : Description
+
+abbrev pub described_in : Result Description Refusal → Described
+described_in (Ok d) = record { number = 0; description = d }
+described_in (Err r) = record { number = number_of r; description = nothing }
+
+-- the same of an entity, with its version
+pub record Entity : Type 0 where
+  pub number : ℕ
+  pub version : ℕ
+  pub description : Description
+
+abbrev pub entity_in : Result Versioned Refusal → Entity
+entity_in (Ok e) = record { number = 0; version = e.version; description = e.description }
+entity_in (Err r) = record { number = number_of r; version = 0; description = nothing }
 
 -- the bytes of a value of one to four streams
 abbrev pub value_length : ℕ → Bool

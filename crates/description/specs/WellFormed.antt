@@ -1,18 +1,17 @@
 -- When a description is well formed (01, "The description and the frame it cuts"; refusals 6 and 10), as tests and as a condition. Assumes
 -- nothing.
-use Rattle.std.specs.Prelude.{ℕ, ◌≤◌, ◌<◌, Bool, true, false, not, ◌||◌, ◌&&◌, List, [], ◌∷◌, ◌≡◌, eqb, ltb, get_or, drop}
+use Rattle.std.specs.Prelude.{ℕ, ◌≤◌, ◌<◌, Bool, not, ◌||◌, ◌&&◌, List, ◌≡◌, eqb, ltb, get_or, drop}
+use Rattle.std.specs.List.{list_any, list_all}
 use Rattle.description.specs.declared.Lengths.{Lengths}
 use Rattle.description.specs.declared.Description.{Description}
 use Rattle.description.specs.Bytes.{streams, no_stream}
 
 -- some of the list is so; all of it is
 abbrev pub any : (Lengths → Bool) → List Lengths → Bool
-any q [] = false
-any q (l ∷ ls) = q l || any q ls
+any q ls = list_any q ls
 
 abbrev pub all : (Lengths → Bool) → List Lengths → Bool
-all q [] = true
-all q (l ∷ ls) = q l && all q ls
+all q ls = list_all q ls
 
 -- a stream whose two lengths are both 0
 abbrev pub empty : Lengths → Bool

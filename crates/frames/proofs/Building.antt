@@ -16,13 +16,13 @@ use Rattle.description.specs.declared.Description.{Description}
 use Rattle.description.specs.Answers.{handed}
 use Rattle.places.specs.Parts.{used_by}
 use Rattle.description.proofs.Filled.{filled_each}
-use Rattle.places.proofs.Placing.{used_is}
+use Rattle.places.proofs.Placing.{lengths_eight}
 use Rattle.frames.specs.Frames.{parts_a, parts_b, joined, frame_of, build_tests, build_number, build_for, frame_for}
-use Rattle.frames.specs.Ready.{slot, all_a, all_b, Ready}
+use Rattle.frames.specs.Ready.{all_a, all_b, Ready}
 
 pub all_used : (d : Description) → length d.stream ≡ 4 → all_a d + all_b d ≡ used_by d
-all_used d n =
-    used_is d n (slot d 0).a (slot d 1).a (slot d 2).a (slot d 3).a (slot d 0).b (slot d 1).b (slot d 2).b (slot d 3).b refl refl refl refl refl refl refl refl
+unfolding used_by
+all_used d n = rw (lengths_eight d n) (omega arith)
 
 module _ (capacity : ℕ) (d : Description) (mode : ℕ) (s0 s1 s2 s3 : List ℕ) (room n : ℕ) (size : length d.stream ≡ 4)
     (e : n ≡ refused_with (build_tests capacity d mode (length s0 ∷ length s1 ∷ length s2 ∷ length s3 ∷ []) room)) where

@@ -3,7 +3,7 @@ use mathlib.Core.Path.{◌≡◌, refl, sym, ap, ◌∙◌}
 use mathlib.Core.Bool.{false, not}
 use mathlib.Core.List.{List, [], ◌∷◌, ◌++◌}
 use Prim.Native.Nat.{ℕ, zero, suc, ◌+◌, ◌-◌, ◌≤◌, ◌<◌}
-use native.Mathlib.Nat.{add-sub_cancel_left}
+use native.Mathlib.Nat.{add-sub_cancel_left, zero-add}
 use native.Mathlib.Omega.{arith}
 use borrow.Author.Tests.{ltb-false, not-false, ne_eqb, eqb-true}
 use lib.Dec.{ltb, eqb, lit<}
@@ -16,11 +16,10 @@ use Rattle.moves.specs.Moves.{placed, behind}
 use Rattle.moves.proofs.Pieces.{puts, puts_then}
 use Rattle.description.specs.declared.Description.{Description}
 use Rattle.places.specs.declared.Part.{Part}
-use Rattle.places.specs.declared.Places.{Places}
 use Rattle.description.specs.Bytes.{no_stream, said_of}
 use Rattle.description.specs.Answers.{handed}
-use Rattle.places.specs.Parts.{used_by, parts_of, bad_capacity, layout_tests, no_part, layout_for}
-use Rattle.places.proofs.Placing.{parts_are}
+use Rattle.places.specs.Parts.{used_by, parts_of, parts_from, bad_capacity, layout_tests, no_part, Places, layout_for}
+use Rattle.places.proofs.Placing.{lengths_eight}
 use Rattle.description.proofs.Writing.{neither}
 use Rattle.frames.specs.Frames.{bytes_in, stream_in, sizes, any_less, cut_tests, cut_number, cut_for, stream_for}
 use Rattle.frames.specs.Ready.{slot, all_a, all_b}
@@ -62,9 +61,8 @@ eight d =
     ∷ []
 
 pub parts_eight : (d : Description) → length d.stream ≡ 4 → parts_of d ≡ eight d
-parts_eight d n =
-    sym (parts_are d n (slot d 0).a (slot d 1).a (slot d 2).a (slot d 3).a (slot d 0).b (slot d 1).b (slot d 2).b (slot d 3).b
-    refl refl refl refl refl refl refl refl)
+unfolding parts_of parts_from
+parts_eight d n = rw (lengths_eight d n, zero-add (slot d 0).a) refl
 
 -- the two parts of a stream lie within the frame and fit its output
 abbrev pub Fits : List Part → ℕ → ℕ → ℕ → Type 0

@@ -1,6 +1,7 @@
 -- The multiplex frame (01, "The description and the frame it cuts"; 000, 6.2.3): part A of streams 0, 1, .., then part B of streams 0, 1, ..,
 -- then zero padding to the capacity. Assumes nothing.
-use Rattle.std.specs.Prelude.{ℕ, ◌+◌, ◌-◌, Bool, false, not, ◌||◌, List, [], ◌∷◌, ◌++◌, map, ltb, eqb, length, get_or, take, drop, replicate}
+use Rattle.std.specs.Prelude.{ℕ, ◌+◌, ◌-◌, Bool, Result, Ok, Err, false, not, ◌||◌, List, [], ◌∷◌, ◌++◌, map, ltb, eqb, length, get_or, take, drop, replicate}
+use Rattle.std.specs.List.{list_any}
 use Rattle.laws.specs.Limits.{longest}
 use Rattle.laws.specs.Pick.{pick}
 use Rattle.laws.specs.Refuse.{Test, test, refused_with}
@@ -8,12 +9,12 @@ use Rattle.laws.specs.Written.{written}
 use Rattle.description.specs.declared.Lengths.{Lengths}
 use Rattle.description.specs.declared.Description.{Description}
 use Rattle.places.specs.declared.Part.{Part}
-use Rattle.moves.specs.declared.Wrote.{Wrote}
-use Rattle.moves.specs.Wrote.{wrote_of}
+use Rattle.moves.specs.Wrote.{Wrote, wrote_of}
 use Rattle.description.specs.Answers.{handed}
 use Rattle.description.specs.Bytes.{filled}
 use Rattle.places.specs.Parts.{used_by, parts_of, bad_capacity, no_part}
-use Rattle.frames.specs.declared.Streams.{Streams}
+use Rattle.refusal.specs.declared.Refusal.{Refusal}
+use Rattle.refusal.specs.Refusal.{number_of}
 
 -- a part of each stream, by the length of its part A
 unfoldable pub each_of : (ℕ → List ℕ → List ℕ) → List Lengths → List (List ℕ) → List (List ℕ)
@@ -51,8 +52,7 @@ sizes d = map (λ l. l.a + l.b) d.stream
 
 -- some length is over the limit
 abbrev pub any_long : List ℕ → Bool
-any_long [] = false
-any_long (n ∷ ns) = ltb longest n || any_long ns
+any_long ns = list_any (λ n. ltb longest n) ns
 
 -- some length is less than the one that the description has
 abbrev pub any_less : List ℕ → List ℕ → Bool
@@ -84,6 +84,15 @@ cut_tests capacity d mode size rooms =
 
 unfoldable pub cut_number : ℕ → Description → ℕ → List ℕ → List (List ℕ) → ℕ
 cut_number capacity d mode frame outs = refused_with (cut_tests capacity d mode (length frame) (map length outs))
+
+-- the answer of `cut` in 01's terms: its number, and the bytes of each stream, 0 where it is refused
+pub record Streams : Type 0 where
+  pub number : ℕ
+  pub len : List ℕ
+
+abbrev pub streams_in : Result (List ℕ) Refusal → Streams
+streams_in (Ok ns) = record { number = 0; len = ns }
+streams_in (Err r) = record { number = number_of r; len = 0 ∷ 0 ∷ 0 ∷ 0 ∷ [] }
 
 unfoldable pub cut_for : ℕ → Description → ℕ → List ℕ → List (List ℕ) → Streams
 cut_for capacity d mode frame outs =

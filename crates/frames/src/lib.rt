@@ -1,29 +1,20 @@
 // The multiplex frame (01, "The description and the frame it cuts"): built from its streams, and cut into them.
 #![tactic(auto)]
 
-ghost use Rattle.std.specs.Prelude.{◌≡◌, [], ◌∷◌, ◌++◌, ◌+◌, ◌≤◌, ◌||◌, ◌&&◌, eqb, ltb, length, get_or};
+ghost use Rattle.std.specs.Prelude.{◌≡◌, [], ◌∷◌, ◌++◌, ◌+◌, ◌≤◌, ltb, length, get_or};
+ghost use Rattle.std.specs.List.{list_any, zip};
 ghost use Rattle.laws.specs.Refuse.{refused_with};
 ghost use Rattle.laws.specs.Written.{written};
+ghost use Rattle.description.specs.Bytes.{filled};
+ghost use Rattle.refusal.specs.Refusal.{number_in};
 ghost use Rattle.moves.specs.Moves.{Puts};
+ghost use Rattle.moves.specs.Wrote.{wrote_in};
 ghost use Rattle.frames.specs.Ready.{all_a, all_b, all_parts, Ready};
-ghost use Rattle.frames.specs.Frames.{joined, bytes_in, sizes, build_tests, build_for, frame_for, cut_tests, cut_for, stream_for};
+ghost use Rattle.frames.specs.Frames.{joined, bytes_in, sizes, any_long, any_less, build_tests, build_for, frame_for, streams_in, cut_for, stream_for};
 
-use description::{Description, Lengths};
-use moves::Wrote;
+use description::Description;
 use places::Part;
-
-// Number 0: the bytes of each stream.
-#[derive(Clone, Copy)]
-pub struct Streams {
-    pub number: u32,
-    pub len: [usize; 4],
-}
-
-fn size(l: Lengths) -> usize
-    ensures { (result ≡ l.a + l.b) × (result ≤ 131070) }
-{
-    (l.a as usize) + (l.b as usize)
-}
+use refusal::Refusal;
 
 // Four pieces, one behind the other.
 fn put_four(s0: &[u8], s1: &[u8], s2: &[u8], s3: &[u8], out: &mut [u8], at: usize) -> usize
@@ -53,101 +44,65 @@ fn put_parts(d: Description, s0: &[u8], s1: &[u8], s2: &[u8], s3: &[u8], out: &m
     put_four(&s0[a0..], &s1[a1..], &s2[a2..], &s3[a3..], out, at)
 }
 
-// The refusal of a frame to be built, by the lengths of its streams.
-fn build_number(
+// The bytes of each slot's stream.
+fn sizes(d: Description) -> [usize; 4]
+    ensures { result ≡ sizes d }
+{
+    let [s0, s1, s2, s3] = d.stream;
+    [s0.size(), s1.size(), s2.size(), s3.size()]
+}
+
+fn is_any_long(lengths: [usize; 4]) -> bool
+    ensures { result ≡ any_long lengths }
+{
+    lengths.iter().any(|&n| 65528 < n)
+}
+
+fn is_any_less(lengths: [usize; 4], sizes: [usize; 4]) -> bool
+    ensures { result ≡ list_any (λ p. ltb p.0 p.1) (zip lengths sizes) }
+{
+    lengths.iter().zip(&sizes).any(|(n, size)| n < size)
+}
+
+// Whether the lengths are those that the description has.
+fn is_filled(d: Description, lengths: [usize; 4]) -> bool
+    ensures { result ≡ filled d (get_or lengths 0 0) (get_or lengths 1 0) (get_or lengths 2 0) (get_or lengths 3 0) }
+{
+    lengths == sizes(d)
+}
+
+// Whether an output is shorter than its stream.
+fn is_short(d: Description, rooms: [usize; 4]) -> bool
+    ensures { (result ≡ any_less (sizes d) rooms) × (length d.stream ≡ 4) }
+{
+    let sizes = sizes(d);
+    is_any_less(rooms, sizes)
+}
+
+// Tries a frame to be built, by the lengths of its streams.
+fn check(
     capacity: usize,
     d: Description,
     mode: u8,
-    n0: usize,
-    n1: usize,
-    n2: usize,
-    n3: usize,
+    lengths: [usize; 4],
     room: usize,
-) -> u32
-    ensures { result ≡ refused_with (build_tests capacity d mode (n0 ∷ n1 ∷ n2 ∷ n3 ∷ []) room) }
+) -> Result<(), Refusal>
+    ensures { number_in result ≡ refused_with (build_tests capacity d mode lengths room) }
 {
-    let long = (65528 < n0) | ((65528 < n1) | ((65528 < n2) | (65528 < n3)));
-    if places::is_bad_capacity(capacity) | long {
-        return 1;
+    if places::is_bad_capacity(capacity) | is_any_long(lengths) {
+        return Err(Refusal::Size);
     }
-    let number = description::handed_number(false, d, mode);
-    if number != 0 {
-        return number;
-    }
-    let k = all_sizes(d);
-    if !is_filled(k, n0, n1, n2, n3) {
-        return 11;
+    description::handed_number(false, d, mode)?;
+    if !is_filled(d, lengths) {
+        return Err(Refusal::StreamLength);
     }
     if capacity < places::used(d) {
-        return 12;
+        return Err(Refusal::OverCapacity);
     }
     if room < capacity {
-        return 1;
+        return Err(Refusal::Size);
     }
-    0
-}
-
-// The bytes of each slot's stream.
-fn all_sizes(d: Description) -> [usize; 4]
-    ensures { (result ≡ sizes d) × (length d.stream ≡ 4) }
-{
-    let n0 = size(d.stream[0]);
-    let n1 = size(d.stream[1]);
-    let n2 = size(d.stream[2]);
-    let n3 = size(d.stream[3]);
-    [n0, n1, n2, n3]
-}
-
-// Whether the lengths are these sizes.
-fn is_filled(k: [usize; 4], n0: usize, n1: usize, n2: usize, n3: usize) -> bool
-    ensures { result ≡ (eqb n0 (get_or k 0 0) && eqb n1 (get_or k 1 0) && eqb n2 (get_or k 2 0) && eqb n3 (get_or k 3 0)) }
-{
-    let k0 = k[0];
-    let k1 = k[1];
-    let k2 = k[2];
-    let k3 = k[3];
-    (n0 == k0) & (n1 == k1) & (n2 == k2) & (n3 == k3)
-}
-
-// Whether a length is less than its size.
-fn is_less(k: [usize; 4], n0: usize, n1: usize, n2: usize, n3: usize) -> bool
-    ensures { result ≡ (ltb n0 (get_or k 0 0) || (ltb n1 (get_or k 1 0) || (ltb n2 (get_or k 2 0) || ltb n3 (get_or k 3 0)))) }
-{
-    let k0 = k[0];
-    let k1 = k[1];
-    let k2 = k[2];
-    let k3 = k[3];
-    (n0 < k0) | ((n1 < k1) | ((n2 < k2) | (n3 < k3)))
-}
-
-// The refusal of a frame to be cut, by its length and those of the outputs.
-fn cut_number(
-    capacity: usize,
-    d: Description,
-    mode: u8,
-    size: usize,
-    n0: usize,
-    n1: usize,
-    n2: usize,
-    n3: usize,
-) -> u32
-    ensures { result ≡ refused_with (cut_tests capacity d mode size (n0 ∷ n1 ∷ n2 ∷ n3 ∷ [])) }
-{
-    if places::is_bad_capacity(capacity) | !(size == capacity) {
-        return 1;
-    }
-    let number = description::handed_number(false, d, mode);
-    if number != 0 {
-        return number;
-    }
-    if capacity < places::used(d) {
-        return 12;
-    }
-    let k = all_sizes(d);
-    if is_less(k, n0, n1, n2, n3) {
-        return 1;
-    }
-    0
+    Ok(())
 }
 
 // Writes the frame to the front of the output: part A of streams 0, 1, .., then part B, then zeros to the capacity. Refused with 1 (a
@@ -161,29 +116,15 @@ pub fn build(
     s2: &[u8],
     s3: &[u8],
     out: &mut [u8],
-) -> Wrote
-    ensures answer { result ≡ build_for capacity d mode (s0.now ∷ s1.now ∷ s2.now ∷ s3.now ∷ []) out.old }
+) -> Result<usize, Refusal>
+    ensures answer { wrote_in result ≡ build_for capacity d mode (s0.now ∷ s1.now ∷ s2.now ∷ s3.now ∷ []) out.old }
     ensures memory { out.new ≡ frame_for capacity d mode (s0.now ∷ s1.now ∷ s2.now ∷ s3.now ∷ []) out.old }
 {
-    let number = build_number(
-        capacity,
-        d,
-        mode,
-        s0.len(),
-        s1.len(),
-        s2.len(),
-        s3.len(),
-        out.len(),
-    );
-    if number != 0 {
-        return Wrote { number, length: 0 };
-    }
+    let lengths = [s0.len(), s1.len(), s2.len(), s3.len()];
+    check(capacity, d, mode, lengths, out.len())?;
     let end = put_parts(d, s0, s1, s2, s3, out);
     moves::clear(out, end, capacity - end);
-    Wrote {
-        number: 0,
-        length: capacity,
-    }
+    Ok(capacity)
 }
 
 // Copies two parts of the frame, one behind the other, to the front of the output.
@@ -210,34 +151,23 @@ pub fn cut(
     o1: &mut [u8],
     o2: &mut [u8],
     o3: &mut [u8],
-) -> Streams
-    ensures answer { result ≡ cut_for capacity d mode frame.now (o0.old ∷ o1.old ∷ o2.old ∷ o3.old ∷ []) }
+) -> Result<[usize; 4], Refusal>
+    ensures answer { streams_in result ≡ cut_for capacity d mode frame.now (o0.old ∷ o1.old ∷ o2.old ∷ o3.old ∷ []) }
     ensures memory0 { o0.new ≡ stream_for capacity d mode frame.now (o0.old ∷ o1.old ∷ o2.old ∷ o3.old ∷ []) 0 }
     ensures memory1 { o1.new ≡ stream_for capacity d mode frame.now (o0.old ∷ o1.old ∷ o2.old ∷ o3.old ∷ []) 1 }
     ensures memory2 { o2.new ≡ stream_for capacity d mode frame.now (o0.old ∷ o1.old ∷ o2.old ∷ o3.old ∷ []) 2 }
     ensures memory3 { o3.new ≡ stream_for capacity d mode frame.now (o0.old ∷ o1.old ∷ o2.old ∷ o3.old ∷ []) 3 }
 {
-    let number = cut_number(
-        capacity,
-        d,
-        mode,
-        frame.len(),
-        o0.len(),
-        o1.len(),
-        o2.len(),
-        o3.len(),
-    );
-    if number != 0 {
-        return Streams {
-            number,
-            len: [0, 0, 0, 0],
-        };
+    if frame.len() != capacity {
+        return Err(Refusal::Size);
     }
-    let p = places::layout(capacity, d, mode);
+    let p = places::layout(capacity, d, mode)?;
+    if is_short(d, [o0.len(), o1.len(), o2.len(), o3.len()]) {
+        return Err(Refusal::Size);
+    }
     take_out(p.part[0], p.part[4], frame, o0);
     take_out(p.part[1], p.part[5], frame, o1);
     take_out(p.part[2], p.part[6], frame, o2);
     take_out(p.part[3], p.part[7], frame, o3);
-    let len = all_sizes(d);
-    Streams { number: 0, len }
+    Ok(sizes(d))
 }

@@ -6,8 +6,7 @@ use native.Mathlib.Nat.{add-zero, not-suc-le-zero, le_of_suc-le-suc}
 use native.Mathlib.Numerals.{add-one}
 use native.Mathlib.Omega.{arith}
 use borrow.Author.Tests.{eq-eqb, ne_eqb}
-use lib.ListN.{length, get_or, take, drop, length-drop}
-use lib.Seq.{get_or-drop}
+use lib.ListN.{length, get_or, take}
 use Rattle.moves.specs.Moves.{Puts}
 use Rattle.moves.proofs.Pieces.{puts_none, puts_then, puts_same}
 use Rattle.places.specs.declared.Part.{Part}
@@ -39,14 +38,12 @@ pub parts_none : (name : List ℕ) (d : List ℕ) (at : ℕ) → Puts d at (part
 unfolding part_lines
 parts_none name d at = puts_none d at
 
-pub parts_more : (name : List ℕ) (ps : List Part) (from i : ℕ) (d e f : List ℕ) (at n m : ℕ) → from + i < length ps → n ≤ length d
-    → Puts d at (part_lines name 0 (take i (drop from ps))) e n → Puts e n (line_of (name ++ decimal i) (get_or ps (from + i) no_part)) f m
-    → Puts d at (part_lines name 0 (take (i + 1) (drop from ps))) f m
-parts_more name ps from i d e f at n m h l p q =
+pub parts_more : (name : List ℕ) (ps : List Part) (i : ℕ) (d e f : List ℕ) (at n m : ℕ) → i < length ps → n ≤ length d
+    → Puts d at (part_lines name 0 (take i ps)) e n → Puts e n (line_of (name ++ decimal i) (get_or ps i no_part)) f m
+    → Puts d at (part_lines name 0 (take (i + 1) ps)) f m
+parts_more name ps i d e f at n m h l p q =
     let z : 0 + i ≡ i = omega arith in
-    let g = get_or-drop from ps i no_part in
-    let k = length-drop from ps in
-    let w : part_lines name 0 (take i (drop from ps)) ++ line_of (name ++ decimal i) (get_or ps (from + i) no_part) ≡ part_lines name 0 (take (i + 1) (drop from ps)) =
-    rw (add-one, ← g) (subst (λ (j : ℕ). part_lines name 0 (take i (drop from ps)) ++ line_of (name ++ decimal j) (get_or (drop from ps) i no_part) ≡ part_lines name 0 (take (suc i) (drop from ps))) z
-    (lines_more name 0 (drop from ps) i (omega arith))) in
+    let w : part_lines name 0 (take i ps) ++ line_of (name ++ decimal i) (get_or ps i no_part) ≡ part_lines name 0 (take (i + 1) ps) =
+    rw add-one (subst (λ (j : ℕ). part_lines name 0 (take i ps) ++ line_of (name ++ decimal j) (get_or ps i no_part) ≡ part_lines name 0 (take (suc i) ps)) z
+    (lines_more name 0 ps i h)) in
     puts_same w (puts_then l p q)

@@ -1,14 +1,17 @@
 // What the program `layout` prints (01, "The description and the frame it cuts"): the layout of a frame, or its refusal, as text.
 #![tactic(auto)]
 
-ghost use Rattle.std.specs.Prelude.{◌≡◌, ◌++◌, ◌+◌, ◌≤◌, length, take, drop};
+ghost use Rattle.std.specs.Prelude.{◌≡◌, ◌++◌, ◌+◌, ◌≤◌, length, drop, IfOk};
 ghost use Rattle.laws.specs.Written.{written};
 ghost use Rattle.io.specs.Counts.{IsPrefixLen};
 ghost use Rattle.moves.specs.Moves.{Puts};
+ghost use Rattle.refusal.specs.Refusal.{number_in};
+ghost use Rattle.places.specs.Parts.{parts_of, padding_of};
 ghost use Rattle.line_text.specs.Decimal.{decimal};
-ghost use Rattle.layout_text.specs.Text.{line_of, part_lines, padding, lines_of, capacity_in, number_for, text_of};
+ghost use Rattle.layout_text.specs.Text.{line_of, part_lines, padding, lines_of, capacity_in, described_in, number_for, text_of};
 
-use places::{Part, Places};
+use places::{Part, Placement};
+use refusal::Refusal;
 
 // The line of stream i's part; none where it has no byte.
 fn put_part(name: &[u8; 14], i: usize, x: Part, out: &mut [u8], at: usize) -> usize
@@ -22,17 +25,14 @@ fn put_part(name: &[u8; 14], i: usize, x: Part, out: &mut [u8], at: usize) -> us
     line_text::pair(b" at ", x.at as u64, b" length ", x.len as u64, out, a)
 }
 
-// The lines of four parts, the first at index from.
-fn put_parts(name: &[u8; 14], p: Places, from: usize, out: &mut [u8], at: usize) -> usize
-    requires { (from ≤ 4) × (at + 348 ≤ length out.old) }
-    ensures { (result ≤ at + 348) × Puts out.old at (part_lines name.now 0 (take 4 (drop from p.part))) out.new result }
+// The lines of the parts of streams 0, 1, ..
+fn put_parts(name: &[u8; 14], parts: &[Part], out: &mut [u8], at: usize) -> usize
+    requires { (length parts.now ≤ 4) × (at + 348 ≤ length out.old) }
+    ensures { (result ≤ at + 348) × Puts out.old at (part_lines name.now 0 parts.now) out.new result }
 {
     let mut next = at;
-    let mut i = 0;
-    while i < 4 {
-        let x = p.part[from + i];
+    for (i, &x) in parts.iter().enumerate() {
         next = put_part(name, i, x, out, next);
-        i += 1;
     }
     next
 }
@@ -48,25 +48,21 @@ fn put_padding(x: Part, out: &mut [u8], at: usize) -> usize
     line_text::pair(b" at ", x.at as u64, b" length ", x.len as u64, out, a)
 }
 
-fn put_layout(capacity: usize, p: Places, out: &mut [u8]) -> usize
+fn put_layout(capacity: usize, p: Placement, out: &mut [u8]) -> usize
     requires { 1024 ≤ length out.old }
     ensures { (result ≤ 1024) × Puts out.old 0 (lines_of capacity p.part p.padding) out.new result }
 {
     let a = line_text::line(b"capacity ", capacity as u64, out, 0);
-    let b = put_parts(b"part A stream ", p, 0, out, a);
-    let c = put_parts(b"part B stream ", p, 4, out, b);
-    let x = p.padding;
-    put_padding(x, out, c)
+    let b = put_parts(b"part A stream ", &p.part[..4], out, a);
+    let c = put_parts(b"part B stream ", &p.part[4..8], out, b);
+    put_padding(p.padding, out, c)
 }
 
 // The value behind the two bytes of the capacity.
 fn value_in(input: &[u8]) -> &[u8]
     ensures { result.now ≡ drop 2 input.now }
 {
-    if input.len() < 2 {
-        return &input[..0];
-    }
-    &input[2..]
+    input.get(2..).unwrap_or(&[])
 }
 
 fn capacity_in(input: &[u8]) -> usize
@@ -75,32 +71,26 @@ fn capacity_in(input: &[u8]) -> usize
     fields::read16(input, 0) as usize
 }
 
-// The refusal, under MSC mode 0.
-fn number_of(input: &[u8]) -> u32
-    ensures { result ≡ number_for input.now }
+// The layout of the frame, under MSC mode 0.
+fn layout_of(input: &[u8]) -> Result<Placement, Refusal>
+    ensures number { number_in result ≡ number_for input.now }
+    ensures value { IfOk result (λ p. (p.part ≡ parts_of (described_in input.now)) × (p.padding ≡ padding_of (capacity_in input.now) (described_in input.now))) }
 {
     if input.len() < 2 {
-        return 1;
+        return Err(Refusal::Size);
     }
     if 65528 < input.len() {
-        return 1;
+        return Err(Refusal::Size);
     }
     let capacity = capacity_in(input);
     if places::is_bad_capacity(capacity) {
-        return 1;
+        return Err(Refusal::Size);
     }
     let value = value_in(input);
     if !description::is_value_length(value.len()) {
-        return 5;
+        return Err(Refusal::ItemLength);
     }
-    let d = description::of_value(value);
-    if description::ill_formed(d, 0) {
-        return 10;
-    }
-    if capacity < places::used(d) {
-        return 12;
-    }
-    0
+    places::layout(capacity, description::of_value(value), 0)
 }
 
 // The text for an input, at the front of the buffer; the answer is its length.
@@ -109,12 +99,8 @@ pub fn text(input: &[u8], out: &mut [u8; 1024]) -> usize
     ensures memory { out.new ≡ written out.old 0 (text_of input.now) }
     ensures room { IsPrefixLen result out.new }
 {
-    let number = number_of(input);
-    if number != 0 {
-        return line_text::line(b"refused ", number as u64, out, 0);
+    match layout_of(input) {
+        Ok(p) => put_layout(capacity_in(input), p, out),
+        Err(why) => line_text::line(b"refused ", u64::from(why.number()), out, 0),
     }
-    let capacity = capacity_in(input);
-    let d = description::of_value(value_in(input));
-    let p = places::layout(capacity, d, 0);
-    put_layout(capacity, p, out)
 }

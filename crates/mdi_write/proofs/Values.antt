@@ -22,6 +22,10 @@ use Rattle.fields.specs.Numbers.{put_at}
 use Rattle.fields.proofs.Writing.{put_in}
 use Rattle.moves.specs.Moves.{placed}
 use Rattle.moves.proofs.Turns.{placed_is}
+use Rattle.std.specs.Prelude.{Result, Ok, Err}
+use Rattle.std.specs.Result.{result_unwrap_or}
+use Rattle.refusal.specs.declared.Refusal.{Refusal}
+use Rattle.moves.specs.Wrote.{Wrote, wrote_in}
 use Rattle.clock.specs.declared.Stamp.{Stamp}
 use Rattle.clock.specs.Stamps as clock
 use Rattle.clock.proofs.Back as stamp
@@ -173,6 +177,11 @@ value_size_law d l c =
     let m = streams_length (described.streams d) in
     omega arith
 
+-- the bytes that an answer says were written
+wrote_length : (r : Result ℕ Refusal) → result_unwrap_or r 0 ≡ (wrote_in r).length
+wrote_length (Ok n) = refl
+wrote_length (Err r) = refl
+
 module _ (d : Description) (mode : ℕ) (large : forms.is_too_large d ≡ false) (m : mode ≤ 3) (u : answers.unserved mode ≡ false) (ill : forms.ill_formed mode d ≡ false) where
   pub write_is : (out : List ℕ) → 13 ≤ length out
       → (answers.write_for d mode out ≡ record { number = 0; length = 1 + 3 * d.count }) × (answers.output_for d mode out ≡ written out 0 (described.value_of d))
@@ -182,21 +191,24 @@ module _ (d : Description) (mode : ℕ) (large : forms.is_too_large d ≡ false)
       let r : 1 + 3 * d.count ≤ length out = omega arith in
       simp (large, le-ltb _ _ m, u, ill, le-ltb _ _ r) (refl, refl)
 
-  pub description_length : (w : Rattle.moves.specs.declared.Wrote.Wrote) → w ≡ answers.write_for d mode (replicate 13 0) → w.length ≤ 13
-  description_length w q =
-      let c = few d mode ill in
+  length_said : (r : Result ℕ Refusal) → wrote_in r ≡ answers.write_for d mode (replicate 13 0) → result_unwrap_or r 0 ≡ 1 + 3 * d.count
+  length_said r q =
       let z = zeros_length 13 in
-      let k : w.length ≡ 1 + 3 * d.count = ap (λ (x : Rattle.moves.specs.declared.Wrote.Wrote). x.length) (q ∙ (write_is (zeros 13) (omega arith)).0) in
+      wrote_length r ∙ ap (λ (x : Wrote). x.length) (q ∙ (write_is (zeros 13) (omega arith)).0)
+
+  pub description_length : (r : Result ℕ Refusal) (n : ℕ) → n ≡ result_unwrap_or r 0 → wrote_in r ≡ answers.write_for d mode (replicate 13 0) → n ≤ 13
+  description_length r n e q =
+      let c = few d mode ill in
+      let k = length_said r q in
       omega arith
 
-  pub description_value : (v : List ℕ) (w : Rattle.moves.specs.declared.Wrote.Wrote) → length d.stream ≡ 4 → w ≡ answers.write_for d mode (replicate 13 0)
-      → v ≡ answers.output_for d mode (replicate 13 0) → take (w.length - 0) v ≡ described.value_of d
-  description_value v w l q p =
+  pub description_value : (v : List ℕ) (r : Result ℕ Refusal) (n : ℕ) → length d.stream ≡ 4 → n ≡ result_unwrap_or r 0
+      → wrote_in r ≡ answers.write_for d mode (replicate 13 0) → v ≡ answers.output_for d mode (replicate 13 0) → take (n - 0) v ≡ described.value_of d
+  description_value v r n l e q p =
       let z = zeros_length 13 in
       let i = write_is (zeros 13) (omega arith) in
-      let k : w.length ≡ length (described.value_of d) =
-      ap (λ (x : Rattle.moves.specs.declared.Wrote.Wrote). x.length) (q ∙ i.0) ∙ sym (value_size_law d l (few d mode ill)) in
-      ap (take (w.length - 0)) (p ∙ i.1) ∙ front_part (zeros 13) (described.value_of d) w.length k
+      let k : n ≡ length (described.value_of d) = e ∙ length_said r q ∙ sym (value_size_law d l (few d mode ill)) in
+      ap (take (n - 0)) (p ∙ i.1) ∙ front_part (zeros 13) (described.value_of d) n k
 
 -- the MSC mode of a channel that is served
 pub mode_served : (f : Fac) → fast.not_served f ≡ false → answers.unserved f.msc ≡ false

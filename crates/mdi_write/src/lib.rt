@@ -90,8 +90,7 @@ fn put_description(
     ensures out_after { out.new ≡ written out.old at (wire (name_of 4) (value_of d)) }
 {
     let mut value = [0u8; 13];
-    let w = description::write(d, mode, &mut value);
-    let n = w.length;
+    let n = description::write(d, mode, &mut value).unwrap_or(0);
     put_item(names, mdi_spots::SDCI, &value[0..n], out, at)
 }
 
@@ -192,22 +191,12 @@ fn is_large(r: record::Record) -> bool
         | is_bad(t)
 }
 
-// Both parts of a stream.
-fn said(l: description::Lengths) -> usize
-    ensures { (result ≡ l.a + l.b) × (result ≤ 131070) }
-{
-    l.a as usize + l.b as usize
-}
-
 // Whether streams of these lengths are as long as the description says.
 fn is_agreed(d: description::Description, n0: usize, n1: usize, n2: usize, n3: usize) -> bool
     ensures { (result ≡ filled d n0 n1 n2 n3) × (length d.stream ≡ 4) }
 {
-    let l0 = d.stream[0];
-    let l1 = d.stream[1];
-    let l2 = d.stream[2];
-    let l3 = d.stream[3];
-    (n0 == said(l0)) & (n1 == said(l1)) & (n2 == said(l2)) & (n3 == said(l3))
+    let [s0, s1, s2, s3] = d.stream;
+    (n0 == s0.size()) & (n1 == s1.size()) & (n2 == s2.size()) & (n3 == s3.size())
 }
 
 fn time_size(time: Option<clock::Stamp>) -> usize

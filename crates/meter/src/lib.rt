@@ -5,7 +5,6 @@ ghost use Rattle.std.specs.Prelude.{◌≡◌, length, get_or};
 ghost use Rattle.crc.specs.Crc.{crc_of};
 ghost use Rattle.dispersal.specs.Dispersal.{number_for, output_for};
 ghost use Rattle.packet.specs.Calls.{check_for};
-ghost use Rattle.refusal.specs.Refusal.{number_in};
 ghost use Rattle.mdi_write.specs.Answers.{out_for};
 ghost use Rattle.mdi_write.specs.Packet.{four};
 ghost use Rattle.meter.specs.Seen.{seen_in, record_for, wrote_for};
@@ -43,24 +42,14 @@ pub extern "C" fn meter_disperse(input: &[u8], output: &mut [u8]) -> u32
     ensures value { result ≡ number_for input.now output.old }
     ensures output_after { output.new ≡ output_for input.now output.old }
 {
-    number(dispersal::disperse(input, output))
-}
-
-// The number of an answer.
-fn number(answer: Result<(), Refusal>) -> u32
-    ensures { result ≡ number_in answer }
-{
-    match answer {
-        Ok(()) => 0,
-        Err(why) => why.number(),
-    }
+    refusal::number(dispersal::disperse(input, output))
 }
 
 #[unsafe(no_mangle)]
 pub extern "C" fn meter_check(p: usize, bytes: &[u8]) -> u32
     ensures { result ≡ check_for p bytes.now }
 {
-    packet::check(p, bytes)
+    refusal::number(packet::check(p, bytes))
 }
 
 fn byte_at(s: &[u8], at: usize) -> u8
@@ -76,13 +65,21 @@ fn byte_at(s: &[u8], at: usize) -> u8
 pub extern "C" fn meter_mdi_read(packet: &[u8], at: usize) -> Seen
     ensures { result ≡ seen_in packet.now at }
 {
-    let a = mdi::read(packet);
-    Seen {
-        number: a.number,
-        count: a.content.count,
-        service: a.content.fac.service,
-        robustness: a.content.robustness,
-        byte: byte_at(&a.content.sdc.body, at),
+    match mdi::read(packet) {
+        Ok(record) => Seen {
+            number: 0,
+            count: record.count,
+            service: record.fac.service,
+            robustness: record.robustness,
+            byte: byte_at(&record.sdc.body, at),
+        },
+        Err(refused) => Seen {
+            number: refused.why.number(),
+            count: 0,
+            service: 0,
+            robustness: 0,
+            byte: 0,
+        },
     }
 }
 

@@ -15,9 +15,8 @@ use Rattle.laws.specs.Sum.{sum}
 use Rattle.laws.specs.Refuse.{refused_with}
 use Rattle.description.specs.declared.Description.{Description}
 use Rattle.places.specs.declared.Part.{Part}
-use Rattle.places.specs.declared.Places.{Places}
 use Rattle.places.specs.Covering.{lies, covered, InOrder, all_of, Covers}
-use Rattle.places.specs.Parts.{lengths_in, used_by, parts_from, parts_of, padding_of, layout_tests, no_part, layout_for}
+use Rattle.places.specs.Parts.{lengths_in, used_by, parts_from, parts_of, padding_of, layout_tests, no_part, Places, layout_for}
 use Rattle.description.proofs.Meaning.{within}
 use Rattle.places.proofs.Placing.{room}
 

@@ -1,12 +1,14 @@
 -- The layout of the frame that a description cuts (01, "The description and the frame it cuts"; 000, 6.2.3): part A of streams 0, 1, ..,
 -- then part B of streams 0, 1, .., then padding to the capacity. Assumes nothing.
-use Rattle.std.specs.Prelude.{ℕ, ◌+◌, ◌-◌, Bool, false, ◌||◌, List, [], ◌∷◌, ◌++◌, map, eqb, ltb, replicate}
+use Rattle.std.specs.Prelude.{ℕ, ◌+◌, ◌-◌, Bool, Result, Ok, Err, false, ◌||◌, List, [], ◌∷◌, ◌++◌, map, eqb, ltb, replicate}
 use Rattle.laws.specs.Pick.{pick}
 use Rattle.laws.specs.Sum.{sum}
 use Rattle.laws.specs.Refuse.{Test, test, refused_with}
 use Rattle.description.specs.declared.Description.{Description}
 use Rattle.places.specs.declared.Part.{Part}
-use Rattle.places.specs.declared.Places.{Places}
+use Rattle.places.specs.declared.Placement.{Placement}
+use Rattle.refusal.specs.declared.Refusal.{Refusal}
+use Rattle.refusal.specs.Refusal.{number_of}
 use Rattle.description.specs.Answers.{handed}
 
 -- the lengths of the parts in the frame's order; the slots behind the streams have length 0
@@ -37,6 +39,16 @@ layout_tests capacity d mode = test (bad_capacity capacity) 1 ∷ handed false d
 
 abbrev pub no_part : Part
 no_part = record { at = 0; len = 0 }
+
+-- the answer of `layout` in 01's terms: its number, and the layout, all zeros where it is refused
+pub record Places : Type 0 where
+  pub number : ℕ
+  pub part : List Part
+  pub padding : Part
+
+abbrev pub places_in : Result Placement Refusal → Places
+places_in (Ok l) = record { number = 0; part = l.part; padding = l.padding }
+places_in (Err r) = record { number = number_of r; part = replicate 8 no_part; padding = no_part }
 
 unfoldable pub layout_for : ℕ → Description → ℕ → Places
 layout_for capacity d mode =

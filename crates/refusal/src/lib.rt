@@ -2,6 +2,7 @@
 #![tactic(auto)]
 
 ghost use Rattle.std.specs.Prelude.{◌≡◌};
+ghost use Rattle.refusal.specs.Refusal.{number_in};
 
 // A case a line of 01's table, with its number.
 #[derive(Clone, Copy, PartialEq, Eq)]
@@ -51,9 +52,28 @@ impl Refusal {
     }
 }
 
+// 01's number of an answer, for callers in C.
+pub fn number(answer: Result<(), Refusal>) -> u32
+    ensures { result ≡ number_in answer }
+{
+    match answer {
+        Ok(()) => 0,
+        Err(why) => why.number(),
+    }
+}
+
 // A refusal with 01's place: an offset in the input for 2 and 3, else 0.
 #[derive(Clone, Copy, PartialEq, Eq)]
 pub struct Refused {
     pub why: Refusal,
     pub place: u64,
+}
+
+// Of every refusal but 2 and 3 the place is 0.
+impl From<Refusal> for Refused {
+    ghost from_gives = { λ why refused. refused ≡ record { why = why; place = 0 } };
+
+    fn from(why: Refusal) -> Refused {
+        Refused { why, place: 0 }
+    }
 }

@@ -2,7 +2,8 @@
 // compared with the second program.
 #![tactic(auto)]
 
-ghost use Rattle.std.specs.Prelude.{◌≡◌, ◌&&◌, ◌≤◌, max, IfOk};
+ghost use Rattle.std.specs.Prelude.{◌≡◌, ◌≤◌, IfOk, None};
+ghost use Rattle.laws.specs.Pick.{pick};
 ghost use Rattle.refusal.specs.Refusal.{number_in, placed_number_in, place_in};
 ghost use Rattle.saying.specs.Values.{begun, with};
 
@@ -12,27 +13,25 @@ use refusal::{Refusal, Refused};
 // The most values that an answer has.
 const MOST: usize = 256;
 
-// whole is false where the case was none after all.
+// The values are the first `count`.
+// Kept: an array with a length beside it, since the program has no heap, and `begun` and `with` are definitions over it.
 #[derive(Clone, Copy)]
 pub struct Said {
-    pub whole: bool,
     pub number: u32,
     pub place: u64,
     pub count: usize,
-    pub value: [u64; 256],
+    pub value: [u64; MOST],
 }
 
 // What a call says that gives no values back, yet.
 pub fn begin(number: u32, place: u64) -> Said
     ensures { result ≡ begun number place }
 {
-    let value = [0u64; 256];
     Said {
-        whole: true,
         number,
         place,
         count: 0,
-        value,
+        value: [0; MOST],
     }
 }
 
@@ -85,22 +84,12 @@ pub fn one(number: u32, x: u64) -> Said
 }
 
 // The case is one only if this holds too.
-pub fn only_if(s: Said, yes: bool) -> Said
-    ensures { result ≡ record { whole = s.whole && yes; number = s.number; place = s.place; count = s.count; value = s.value } }
+pub fn only_if(s: Option<Said>, yes: bool) -> Option<Said>
+    ensures { result ≡ pick yes s None }
 {
-    let mut next = s;
-    next.whole = s.whole & yes;
-    next
-}
-
-// The first n values, one behind the other.
-fn put_values(out: &mut [u8], value: [u64; 256], n: usize)
-    requires { n ≤ 256 }
-{
-    let mut i = 0;
-    while i < n {
-        fields::write64(out, 14 + 8 * i, value[i]);
-        i += 1;
+    match s {
+        Some(said) if yes => Some(said),
+        _ => None,
     }
 }
 
@@ -109,67 +98,59 @@ fn tell(out: &mut [u8], s: Said, buffers: u8) -> usize
     ensures { result ≤ 2063 }
 {
     let n = s.count % 257;
-    let value = s.value;
     answer::begin(out, s.number, s.place, (n % 256) as u8);
-    put_values(out, value, n);
+    for (i, &x) in s.value[..n].iter().enumerate() {
+        fields::write64(out, 14 + 8 * i, x);
+    }
     answer::buffers(out, 14 + 8 * n, buffers)
 }
 
-// Ends the answer: of size 0 where the case was none.
-fn end(out: &mut [u8], whole: bool, at: usize) -> usize
-    ensures { result ≤ max at 4 }
-{
-    if whole {
-        return answer::end(out, at);
-    }
-    answer::none(out)
-}
-
-// The answer of a call that lends no buffer.
-pub fn alone(out: &mut [u8], s: Said) -> usize
+// The answer of a call that lends no buffer; of size 0 where the case was none.
+pub fn alone(out: &mut [u8], s: Option<Said>) -> usize
     ensures { result ≤ 2063 }
 {
-    let at = tell(out, s, 0);
-    end(out, s.whole, at)
+    let Some(said) = s else {
+        return answer::none(out);
+    };
+    let at = tell(out, said, 0);
+    answer::end(out, at)
 }
 
 // .. of one that lends one.
-pub fn lent(out: &mut [u8], s: Said, b: &[u8]) -> usize
+pub fn lent(out: &mut [u8], s: Option<Said>, b: &[u8]) -> usize
     ensures { result ≤ 1048576 }
 {
-    let at = tell(out, s, 1);
-    let at = answer::buffer(out, at, b);
-    end(out, s.whole, at)
+    some(out, s, 1, b, b)
 }
 
 // .. of one that lends four.
-pub fn lent_four(out: &mut [u8], s: Said, a: &[u8], b: &[u8], c: &[u8], d: &[u8]) -> usize
+pub fn lent_four(out: &mut [u8], s: Option<Said>, a: &[u8], b: &[u8], c: &[u8], d: &[u8]) -> usize
     ensures { result ≤ 1048576 }
 {
-    let at = tell(out, s, 4);
+    let Some(said) = s else {
+        return answer::none(out);
+    };
+    let at = tell(out, said, 4);
     let at = answer::buffer(out, at, a);
     let at = answer::buffer(out, at, b);
     let at = answer::buffer(out, at, c);
     let at = answer::buffer(out, at, d);
-    end(out, s.whole, at)
-}
-
-// A buffer, where the answer has it.
-fn more(out: &mut [u8], at: usize, has: bool, b: &[u8]) -> usize
-    ensures { result ≤ max at 1048576 }
-{
-    if has {
-        return answer::buffer(out, at, b);
-    }
-    at
+    answer::end(out, at)
 }
 
 // .. of one that lends so many of two.
-pub fn some(out: &mut [u8], s: Said, buffers: u8, b: &[u8], c: &[u8]) -> usize
+pub fn some(out: &mut [u8], s: Option<Said>, buffers: u8, b: &[u8], c: &[u8]) -> usize
     ensures { result ≤ 1048576 }
 {
-    let at = tell(out, s, buffers);
-    let at = more(out, at, 0 < buffers, b);
-    let at = more(out, at, 1 < buffers, c);
-    end(out, s.whole, at)
+    let Some(said) = s else {
+        return answer::none(out);
+    };
+    let mut at = tell(out, said, buffers);
+    if 0 < buffers {
+        at = answer::buffer(out, at, b);
+    }
+    if 1 < buffers {
+        at = answer::buffer(out, at, c);
+    }
+    answer::end(out, at)
 }

@@ -1,11 +1,9 @@
 // Packets given to a receiver: those of call 36 (docs/CASES.md), and those of the frames of call 37. Nothing here decides an answer.
 #![tactic(auto)]
 
-ghost use Rattle.std.specs.Prelude.{◌<◌};
-
 use cases::case;
 use cases::case::Taken;
-use receiver::{Answer, Receiver, Told};
+use receiver::{Receiver, Told};
 use stream_sending::Acted;
 use stream_values::Run;
 
@@ -14,51 +12,19 @@ const FRAME: usize = 8190;
 
 const UNITS: usize = 32768;
 
-// What a packet brought, as the values of an answer.
-#[derive(Clone, Copy)]
-struct Heard {
-    number: u32,
-    given: bool,
-    id: u8,
-    length: usize,
-}
-
-fn nothing(number: u32) -> Heard {
-    Heard {
-        number,
-        given: false,
-        id: 0,
-        length: 0,
-    }
-}
-
-fn values_of(a: Answer) -> Heard {
-    match a {
-        Answer::Nothing => nothing(0),
-        Answer::Delivered { id, length } => Heard {
-            number: 0,
-            given: true,
-            id,
-            length,
-        },
-        Answer::Refused { number } => nothing(number),
-    }
-}
-
 // The five values of a packet of call 36, which stood so in the body.
 fn tell(r: Run, t: Told, s: Taken) -> Run {
-    let a = t.answer;
-    let h = values_of(a);
-    let said = stream_values::begin_step(r.said, h.number, s.whole);
-    let said = saying::three(said, h.given as u64, h.id as u64, h.length as u64);
-    let said = saying::value(said, t.dropped as u64);
-    let sender = r.sender;
-    let receiver = t.next;
+    let (number, delivered) = saying::numbered(t.answer);
+    let said = stream_values::begin_step(r.said, number);
+    let said = match delivered {
+        Some(unit) => saying::three(said, 1, u64::from(unit.id), unit.length as u64),
+        None => saying::three(said, 0, 0, 0),
+    };
     Run {
         at: s.next,
-        said,
-        sender,
-        receiver,
+        said: saying::value(said, t.dropped as u64),
+        sender: r.sender,
+        receiver: t.next,
     }
 }
 
@@ -81,12 +47,6 @@ fn part(s: &[u8], at: usize, n: usize) -> &[u8] {
     case::front(&s[at..], n)
 }
 
-fn wide(x: u8) -> usize
-    ensures { result < 4 }
-{
-    (x % 4) as usize
-}
-
 // (id + 1) times length.
 fn weight(id: u8, length: usize) -> u64 {
     let n = (length % 65536) as u64;
@@ -98,25 +58,20 @@ fn weight(id: u8, length: usize) -> u64 {
     }
 }
 
-fn counted(g: Gathered, h: Heard, dropped: usize, receiver: Receiver) -> Gathered {
-    Gathered {
-        units: std::num::wrapping_add_u64(g.units, h.given as u64),
-        sum: std::num::wrapping_add_u64(g.sum, weight(h.id, h.length)),
-        end: case::past(g.end, h.length),
-        dropped: std::num::wrapping_add_u64(g.dropped, dropped as u64),
-        receiver,
-    }
-}
-
 // One packet to the receiver; a unit that it completes goes behind the bytes gathered.
 fn hear_one(g: Gathered, p: usize, packet: &[u8], buffer: &mut [u8], all: &mut [u8]) -> Gathered {
-    let before = g.receiver;
-    let told = before.step(p, buffer, packet);
-    let a = told.answer;
-    let h = values_of(a);
-    moves::copy(part(buffer, wide(h.id) * 4096, h.length), all, g.end);
-    let after = told.next;
-    counted(g, h, told.dropped, after)
+    let told = g.receiver.step(p, buffer, packet);
+    let mut next = g;
+    next.receiver = told.next;
+    next.dropped = g.dropped.wrapping_add(told.dropped as u64);
+    if let Ok(Some(unit)) = told.answer {
+        let at = usize::from(unit.id % 4) * 4096;
+        moves::copy(part(buffer, at, unit.length), all, g.end);
+        next.units = g.units.wrapping_add(1);
+        next.sum = g.sum.wrapping_add(weight(unit.id, unit.length));
+        next.end = case::past(g.end, unit.length);
+    }
+    next
 }
 
 // The n packets of a frame, in order.
@@ -130,12 +85,8 @@ fn hear_all(
 ) -> Gathered {
     let size = case::past(p, 3);
     let mut r = g;
-    let mut at: usize = 0;
-    let mut left = n;
-    while 0 < left {
-        r = hear_one(r, p, part(frame, at, size), buffer, all);
-        at = case::past(at, size);
-        left -= 1;
+    for packet in frame.chunks(size).take(n) {
+        r = hear_one(r, p, packet, buffer, all);
     }
     r
 }
@@ -144,7 +95,7 @@ fn hear_all(
 fn summed(r: Run, a: Acted, g: Gathered, all: &[u8]) -> Run {
     let done = a.done;
     let word = crc::crc16(case::front(all, g.end));
-    let said = stream_values::begin_step(r.said, done.number, a.whole);
+    let said = stream_values::begin_step(r.said, done.number);
     let said = saying::three(said, g.units, g.sum, word as u64);
     let said = saying::value(said, g.dropped);
     stream_sending::after(a, said, g.receiver)
@@ -167,17 +118,17 @@ fn tell_all(r: Run, a: Acted, body: &[u8], frame: &[u8], buffer: &mut [u8]) -> R
 }
 
 // A packet of call 36, by the receiver's outer call.
-pub fn hear(r: Run, body: &[u8], buffer: &mut [u8]) -> Run {
+pub fn hear(r: Run, body: &[u8], buffer: &mut [u8]) -> Option<Run> {
     let mut packet = [0u8; case::BUFFER];
-    let s = case::buffer(body, case::past(r.at, 8), &mut packet);
+    let s = case::buffer(body, case::past(r.at, 8), &mut packet)?;
     let p = fields::read64(body, r.at) as usize;
     let before = r.receiver;
     let t = stream_lending::step_lent(before, p, buffer, case::front(&packet, s.len));
-    tell(r, t, s)
+    Some(tell(r, t, s))
 }
 
 // A step of call 37 has the settings at the front of the body, and the packets of its frame go to the receiver.
-pub fn pass(r: Run, body: &[u8], store: &mut [u8], buffer: &mut [u8]) -> Run {
+pub fn pass(r: Run, body: &[u8], store: &mut [u8], buffer: &mut [u8]) -> Option<Run> {
     let mut frame = [0u8; FRAME];
     let a = stream_sending::act(
         r.sender,
@@ -187,6 +138,6 @@ pub fn pass(r: Run, body: &[u8], store: &mut [u8], buffer: &mut [u8]) -> Run {
         body,
         store,
         &mut frame,
-    );
-    tell_all(r, a, body, &frame, buffer)
+    )?;
+    Some(tell_all(r, a, body, &frame, buffer))
 }

@@ -3,7 +3,7 @@
 
 use stream_values::Run;
 
-fn step(r: Run, call: u8, body: &[u8], one: &mut [u8], two: &mut [u8]) -> Run {
+fn step(r: Run, call: u8, body: &[u8], one: &mut [u8], two: &mut [u8]) -> Option<Run> {
     match call {
         35 => stream_sending::send(r, body, one, two),
         36 => stream_hearing::hear(r, body, one),
@@ -11,12 +11,18 @@ fn step(r: Run, call: u8, body: &[u8], one: &mut [u8], two: &mut [u8]) -> Run {
     }
 }
 
-pub fn play(first: Run, call: u8, steps: u8, body: &[u8], one: &mut [u8], two: &mut [u8]) -> Run {
+// None where a step is none.
+pub fn play(
+    first: Run,
+    call: u8,
+    steps: u8,
+    body: &[u8],
+    one: &mut [u8],
+    two: &mut [u8],
+) -> Option<Run> {
     let mut r = first;
-    let mut left = steps;
-    while 0 < left {
-        r = step(r, call, body, one, two);
-        left -= 1;
+    for _ in 0..steps {
+        r = step(r, call, body, one, two)?;
     }
-    r
+    Some(r)
 }

@@ -12,7 +12,6 @@ use stream_values::Run;
 // What a step did, where the body goes on behind it, and the packets of the frame, none where it is a load or refused.
 #[derive(Clone, Copy)]
 pub struct Acted {
-    pub whole: bool,
     pub at: usize,
     pub n: usize,
     pub done: Framed,
@@ -30,7 +29,6 @@ fn loaded(t: Taken, l: Loaded) -> Acted {
         filler: 0,
     };
     Acted {
-        whole: t.whole,
         at: t.next,
         n: 0,
         done,
@@ -38,17 +36,16 @@ fn loaded(t: Taken, l: Loaded) -> Acted {
 }
 
 // The id and the unit stand at a position of the body.
-fn load(s: Sender, g: Settings, body: &[u8], at: usize, store: &mut [u8]) -> Acted {
+fn load(s: Sender, g: Settings, body: &[u8], at: usize, store: &mut [u8]) -> Option<Acted> {
     let mut unit = [0u8; case::BUFFER];
-    let t = case::buffer(body, case::past(at, 8), &mut unit);
+    let t = case::buffer(body, case::past(at, 8), &mut unit)?;
     let id = fields::read64(body, at) as usize;
     let l = s.load(g, store, id, case::front(&unit, t.len));
-    loaded(t, l)
+    Some(loaded(t, l))
 }
 
-fn framed(whole: bool, at: usize, n: usize, done: Framed) -> Acted {
+fn framed(at: usize, n: usize, done: Framed) -> Acted {
     Acted {
-        whole,
         at,
         n: if done.number == 0 { n } else { 0 },
         done,
@@ -64,14 +61,13 @@ pub fn act(
     body: &[u8],
     store: &mut [u8],
     output: &mut [u8],
-) -> Acted {
+) -> Option<Acted> {
     let g = answer_hand::settings_at(body, settings);
-    let kind = case::byte(body, at);
-    if kind == 0 {
-        return load(s, g, body, unit, store);
+    match case::byte(body, at) {
+        0 => load(s, g, body, unit, store),
+        1 => Some(framed(unit, g.n, s.frame(g, store, output))),
+        _ => None,
     }
-    let done = s.frame(g, store, output);
-    framed(kind == 1, unit, g.n, done)
 }
 
 fn tell_frame(said: Said, f: Framed) -> Said {
@@ -82,7 +78,7 @@ fn tell_frame(said: Said, f: Framed) -> Said {
 // The eight values of a step of call 35.
 fn tell(r: Run, a: Acted, output: &[u8]) -> Run {
     let done = a.done;
-    let said = stream_values::begin_step(r.said, done.number, a.whole);
+    let said = stream_values::begin_step(r.said, done.number);
     let said = tell_frame(said, done);
     let said = saying::value(said, crc::crc16(output) as u64);
     let said = saying::value(said, answer::sum(output) as u64);
@@ -102,9 +98,9 @@ pub fn after(a: Acted, said: Said, receiver: Receiver) -> Run {
 }
 
 // A step of call 35 has settings of its own.
-pub fn send(r: Run, body: &[u8], store: &mut [u8], output: &mut [u8]) -> Run {
+pub fn send(r: Run, body: &[u8], store: &mut [u8], output: &mut [u8]) -> Option<Run> {
     let own = case::past(r.at, 1);
     let unit = case::past(own, answer_hand::SETTINGS);
-    let a = act(r.sender, r.at, own, unit, body, store, output);
-    tell(r, a, output)
+    let a = act(r.sender, r.at, own, unit, body, store, output)?;
+    Some(tell(r, a, output))
 }

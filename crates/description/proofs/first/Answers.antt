@@ -1,9 +1,8 @@
 -- `description::first` meets its contract. Assumes nothing.
-use Rattle.description.proofs.Pieces.{first_none, first_some}
+use mathlib.Core.Path.{ap, ◌∙◌}
+use Rattle.std.specs.Option.{unwrap_or}
+use Rattle.description.proofs.Pieces.{first_is}
 use Rattle.description.proofs.first.Goals as goal
 
-pub returns-then-s-eq0 : goal.returns-then-s-eq0
-returns-then-s-eq0 c = search first_none
-
-pub returns-else-s-eq0 : goal.returns-else-s-eq0
-returns-else-s-eq0 c = search first_some
+pub returns : goal.returns
+returns c = c.unwrap_or.ensures ∙ ap (λ o. unwrap_or o 0) (c.copied.ensures ∙ c.first.ensures.value) ∙ first_is c.args.s.now

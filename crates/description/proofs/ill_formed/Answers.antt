@@ -1,19 +1,8 @@
 -- `description::ill_formed` meets its contract. Assumes nothing.
-use lib.Dec.{lit<}
-use Rattle.description.proofs.Tests.{ill_is, sized}
+use mathlib.Core.Path.{refl}
+use Rattle.description.specs.WellFormed.{ill_formed}
 use Rattle.description.proofs.ill_formed.Goals as goal
 
-pub bounds-d-0 : goal.bounds-d-0
-bounds-d-0 c = lit< tt
-
-pub bounds-d-1 : goal.bounds-d-1
-bounds-d-1 c = lit< tt
-
-pub bounds-d-2 : goal.bounds-d-2
-bounds-d-2 c = lit< tt
-
-pub bounds-d-3 : goal.bounds-d-3
-bounds-d-3 c = lit< tt
-
 pub returns : goal.returns
-returns c = search (ill_is, sized)
+unfolding ill_formed
+returns c = rw (c.has_empty.ensures, c.has_more.ensures, c.is_without_a.ensures) refl

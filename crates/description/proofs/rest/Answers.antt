@@ -1,9 +1,7 @@
 -- `description::rest` meets its contract. Assumes nothing.
-use Rattle.description.proofs.Ways.{no_rest, all_rest}
+use mathlib.Core.Path.{refl, ap, ◌∙◌}
+use Rattle.description.proofs.Ways.{rest_is}
 use Rattle.description.proofs.rest.Goals as goal
 
-pub returns-then-s-eq0 : goal.returns-then-s-eq0
-returns-then-s-eq0 c = search no_rest
-
 pub returns : goal.returns
-returns c = search all_rest
+returns c = ap (λ r. r.now) c.unwrap_or.ensures ∙ rest_is c.args.s.now c.get.result _ refl c.get.ensures.lookup

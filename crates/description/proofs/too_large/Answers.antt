@@ -1,19 +1,8 @@
 -- `description::too_large` meets its contract. Assumes nothing.
-use lib.Dec.{lit<}
-use Rattle.description.proofs.Tests.{large_is, sized}
+use mathlib.Core.Path.{refl}
+use Rattle.description.specs.WellFormed.{is_too_large}
 use Rattle.description.proofs.too_large.Goals as goal
 
-pub bounds-d-0 : goal.bounds-d-0
-bounds-d-0 c = lit< tt
-
-pub bounds-d-1 : goal.bounds-d-1
-bounds-d-1 c = lit< tt
-
-pub bounds-d-2 : goal.bounds-d-2
-bounds-d-2 c = lit< tt
-
-pub bounds-d-3 : goal.bounds-d-3
-bounds-d-3 c = lit< tt
-
 pub returns : goal.returns
-returns c = search (large_is, sized)
+unfolding is_too_large
+returns c = rw c.has_over.ensures refl

@@ -4,4 +4,4 @@ use Rattle.mdi_write.proofs.Values.{four_said}
 use Rattle.mdi_write.proofs.is_agreed.Goals as goal
 
 pub returns : goal.returns
-returns c = (four_said _ _ _ _ _ _ _ _ _ _ _ _ c.said.ensures.0 c.said-2.ensures.0 c.said-3.ensures.0 c.said-4.ensures.0, search sized)
+returns c = (four_said _ _ _ _ _ _ _ _ _ _ _ _ c.size.ensures.0 c.size-2.ensures.0 c.size-3.ensures.0 c.size-4.ensures.0, search sized)

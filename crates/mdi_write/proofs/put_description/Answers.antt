@@ -9,7 +9,7 @@ use Rattle.mdi_write.proofs.put_description.Goals as goal
 
 pub slice_bounds-put_item-end : goal.slice_bounds-put_item-end
 slice_bounds-put_item-end c =
-    let h = description_length c.args.d _ c.requires.1 c.requires.2 c.requires.3 c.requires.4 _ c.write-w.ensures.answer in
+    let h = description_length c.args.d _ c.requires.1 c.requires.2 c.requires.3 c.requires.4 _ _ c.unwrap_or-n.ensures c.write.ensures.answer in
     omega arith
 
 pub put_item-requires : goal.put_item-requires
@@ -17,10 +17,10 @@ put_item-requires c =
     let n : length c.args.d.stream ≡ 4 = search sized in
     let k = few c.args.d _ c.requires.4 in
     let z = value_size_law c.args.d n k in
-    let q = any_room _ _ c.args.out.now _ (description_value c.args.d _ c.requires.1 c.requires.2 c.requires.3 c.requires.4 _ _ n c.write-w.ensures.answer c.write-w.ensures.memory) (omega arith) c.requires.5 in
+    let q = any_room _ _ c.args.out.now _ (description_value c.args.d _ c.requires.1 c.requires.2 c.requires.3 c.requires.4 _ _ _ n c.unwrap_or-n.ensures c.write.ensures.answer c.write.ensures.memory) (omega arith) c.requires.5 in
     (c.requires.0, lit< tt, q.0, q.1)
 
 pub returns : goal.returns
 returns c =
     let n : length c.args.d.stream ≡ 4 = search sized in
-    let both = any_put _ _ c.args.out.now _ _ _ _ (description_value c.args.d _ c.requires.1 c.requires.2 c.requires.3 c.requires.4 _ _ n c.write-w.ensures.answer c.write-w.ensures.memory) c.put_item.ensures.value c.put_item.ensures.out_after in record { value = both.0; out_after = both.1 }
+    let both = any_put _ _ c.args.out.now _ _ _ _ (description_value c.args.d _ c.requires.1 c.requires.2 c.requires.3 c.requires.4 _ _ _ n c.unwrap_or-n.ensures c.write.ensures.answer c.write.ensures.memory) c.put_item.ensures.value c.put_item.ensures.out_after in record { value = both.0; out_after = both.1 }

@@ -1,21 +1,13 @@
 -- `places::used` meets its contract. Assumes nothing.
-use lib.Dec.{lit<}
-use borrow.Author.Rules.{rules}
+use mathlib.Core.Path.{◌≡◌, ◌∙◌}
+use native.Mathlib.Omega.{arith}
+use lib.ListN.{length}
 use Rattle.description.proofs.Tests.{sized}
-use Rattle.places.proofs.Placing.{used_is}
+use Rattle.places.proofs.Placing.{eight_long, used_is}
 use Rattle.places.proofs.used.Goals as goal
 
-pub bounds-d-0 : goal.bounds-d-0
-bounds-d-0 c = lit< tt
-
-pub bounds-d-1 : goal.bounds-d-1
-bounds-d-1 c = lit< tt
-
-pub bounds-d-2 : goal.bounds-d-2
-bounds-d-2 c = lit< tt
-
-pub bounds-d-3 : goal.bounds-d-3
-bounds-d-3 c = lit< tt
+pub total-requires : goal.total-requires
+total-requires c = let n : length c.args.d.stream ≡ 4 = search sized in let h = eight_long c.args.d _ n c.lengths.ensures in omega arith
 
 pub returns : goal.returns
-returns c = (search (used_is, sized), search rules)
+returns c = (c.total.ensures.value ∙ used_is c.args.d _ c.lengths.ensures, c.total.ensures.most)

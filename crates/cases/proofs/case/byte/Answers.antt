@@ -1,7 +1,0 @@
--- `cases::case::byte` meets its contract. Assumes nothing.
-use Rattle.std.proofs.Common.{sym}
-use lib.ListN.{get_or-eq_default}
-use Rattle.cases.proofs.case.byte.Goals as goal
-
-pub returns-else-at-s : goal.returns-else-at-s
-returns-else-at-s c = sym (get_or-eq_default c.args.s.now 0 c.if-at-s.false)
