@@ -3,6 +3,7 @@
 use Prim.Native.Nat.{ℕ}
 use mathlib.Core.Path.{◌≡◌, refl, sym, ap, ◌∙◌}
 use mathlib.Core.List.{[], ◌∷◌}
+use Rattle.std.specs.Prelude.{None}
 use native.Mathlib.Omega.{arith}
 use lib.Dec.{lit<}
 use Rattle.description.specs.Bytes.{no_stream}
@@ -11,8 +12,7 @@ use Rattle.fac.specs.Answers.{no_fac}
 use Rattle.fac.specs.Channel as fast
 use Rattle.sdc.specs.Block as block
 use Rattle.record.specs.declared.Record.{Record}
-use Rattle.record.specs.declared.Time.TheVariants.{Absent}
-use Rattle.mdi.specs.Reading.{Answer}
+use Rattle.mdi.specs.declared.Answer.{Answer}
 use Rattle.mdi.specs.Reading.{read_for}
 use Rattle.mdi_write.specs.Packet.{Streams, four, packet_of}
 use Rattle.mdi_write.specs.Answers as writing
@@ -28,7 +28,7 @@ plain count =
       sdc = block.no_sdc;
       description = record { level = record { a = 0; b = 0 }; count = 1; stream = record { a = 0; b = 1 } ∷ no_stream ∷ no_stream ∷ no_stream ∷ [] };
       robustness = 0;
-      time = Absent;
+      time = None;
     }
 
 abbrev streams : Streams

@@ -3,7 +3,8 @@
 #![tactic(auto)]
 
 use cases::{answer, case};
-use record::{Record, Time};
+use clock::Stamp;
+use record::Record;
 use saying::Said;
 use sdc::{Head, Sdc};
 
@@ -26,10 +27,10 @@ fn with_block(said: Said, s: Sdc) -> Said {
     with_head(said, h)
 }
 
-fn with_time(said: Said, t: Time) -> Said {
+fn with_time(said: Said, t: Option<Stamp>) -> Said {
     match t {
-        Time::Absent => saying::three(saying::value(said, 0), 0, 0, 0),
-        Time::Given { stamp } => answer_clock::with_stamp(saying::value(said, 1), stamp),
+        None => saying::three(saying::value(said, 0), 0, 0, 0),
+        Some(stamp) => answer_clock::with_stamp(saying::value(said, 1), stamp),
     }
 }
 

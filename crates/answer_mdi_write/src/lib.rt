@@ -5,7 +5,8 @@
 use answer_frame::Four;
 use cases::case::Taken;
 use cases::{answer, case};
-use record::{Record, Time};
+use clock::Stamp;
+use record::Record;
 use saying::Said;
 use sdc::{Head, Sdc};
 
@@ -20,16 +21,15 @@ fn head_in(body: &[u8]) -> Option<Head> {
 }
 
 // The time at a position of the body, behind the mark that says whether there is one.
-fn time_at(body: &[u8], at: usize) -> Time {
+fn time_at(body: &[u8], at: usize) -> Option<Stamp> {
     if case::byte(body, at) == 0 {
-        return Time::Absent;
+        return None;
     }
-    let stamp = answer_clock::stamp_at(body, case::past(at, 1));
-    Time::Given { stamp }
+    Some(answer_clock::stamp_at(body, case::past(at, 1)))
 }
 
 // The record whose description stands at a position of the body, and the robustness behind it.
-fn record_at(body: &[u8], at: usize, count: u32, sdc: Sdc, time: Time) -> Record {
+fn record_at(body: &[u8], at: usize, count: u32, sdc: Sdc, time: Option<Stamp>) -> Record {
     let fac = answer_fac::fac_at(body, 4);
     let description = answer_description::description_at(body, at);
     Record {

@@ -7,23 +7,21 @@ use Rattle.moves.specs.Moves.{Puts}
 use Rattle.moves.proofs.Pieces.{puts_none}
 use Rattle.line_text.specs.Decimal.{ascii}
 use Rattle.clock.specs.declared.Stamp.{Stamp}
-use Rattle.std.specs.Prelude.{Result}
+use Rattle.std.specs.Prelude.{Option, None, Some, Result}
 use Rattle.std.specs.Result.{result_unwrap_or}
 use Rattle.refusal.specs.declared.Refusal.{Refusal}
 use Rattle.clock.specs.Answers.{judged_in}
 use Rattle.clock.proofs.Told.{yes_of}
 use Rattle.record.specs.declared.Record.{Record}
-use Rattle.record.specs.declared.Time.{Time}
-use Rattle.record.specs.declared.Time.TheVariants.{Absent, Given}
 use Rattle.record.specs.Succession.{follows_for}
 use Rattle.inspect_text.specs.Break.{raw_stamp_text, raw_text, count_text, break_text}
 
 module _ {d e : List ℕ} {at n : ℕ} where
-  pub raw_none : (t : Time) → t ≡ Absent → Puts d at (ascii " no timestamp") e n → Puts d at (raw_text t) e n
+  pub raw_none : (t : Option Stamp) → t ≡ None → Puts d at (ascii " no timestamp") e n → Puts d at (raw_text t) e n
   unfolding raw_text
   raw_none t h p = rw h p
 
-  pub raw_given : (t : Time) (s : Stamp) → t ≡ Given s → Puts d at (raw_stamp_text s) e n → Puts d at (raw_text t) e n
+  pub raw_given : (t : Option Stamp) (s : Stamp) → t ≡ Some s → Puts d at (raw_stamp_text s) e n → Puts d at (raw_text t) e n
   unfolding raw_text
   raw_given t s h p = rw h p
 

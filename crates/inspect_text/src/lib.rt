@@ -11,7 +11,7 @@ use calendar::Date;
 use clock::Stamp;
 use description::{Description, Lengths};
 use mdi::Answer;
-use record::{Record, Time};
+use record::Record;
 
 fn wide(x: u16) -> u64
     ensures { (result ≡ x) × (result < 65536) }
@@ -123,17 +123,17 @@ fn put_raw_stamp(s: Stamp, out: &mut [u8], at: usize) -> usize
     line_text::named(b" utco ", s.utco as u64, out, b)
 }
 
-fn put_raw(t: Time, out: &mut [u8], at: usize) -> usize
+fn put_raw(t: Option<Stamp>, out: &mut [u8], at: usize) -> usize
     requires { at + 59 ≤ length out.old }
     ensures { (result ≤ at + 59) × Puts out.old at (raw_text t) out.new result }
 {
     match t {
-        Time::Absent => line_text::word(b" no timestamp", out, at),
-        Time::Given { stamp } => put_raw_stamp(stamp, out, at),
+        None => line_text::word(b" no timestamp", out, at),
+        Some(stamp) => put_raw_stamp(stamp, out, at),
     }
 }
 
-fn put_count(word: &[u8], n: u64, t: Time, out: &mut [u8], at: usize) -> usize
+fn put_count(word: &[u8], n: u64, t: Option<Stamp>, out: &mut [u8], at: usize) -> usize
     requires { (at + 100 ≤ length out.old) × (length word.now ≤ 20) }
     ensures { (result ≤ at + 100) × Puts out.old at (count_text word.now n t) out.new result }
 {

@@ -15,7 +15,7 @@ use Rattle.clock.specs.Stamps.{decoded_for}
 use Rattle.clock.specs.Answers.{Stamped, stamped_in}
 use Rattle.clock.specs.declared.Stamp.{Stamp}
 use Rattle.refusal.specs.declared.Refusal.{Refusal}
-use Rattle.std.specs.Prelude.{Result}
+use Rattle.std.specs.Prelude.{Option, None, Some, Result}
 use Rattle.description.specs.Bytes.{described_by}
 use Rattle.description.specs.declared.Description.{Description}
 use Rattle.fac.specs.Channel.{fac_of}
@@ -23,8 +23,6 @@ use Rattle.fac.specs.declared.Fac.{Fac}
 use Rattle.sdc.specs.Block.{sdc_of}
 use Rattle.sdc.specs.declared.Sdc.{Sdc}
 use Rattle.record.specs.declared.Record.{Record}
-use Rattle.record.specs.declared.Time.{Time}
-use Rattle.record.specs.declared.Time.TheVariants.{Absent, Given}
 use Rattle.items.specs.Items.{Found, none, some, cut_of, find, spot_of, value_of, shown_at}
 use Rattle.items.specs.declared.Spot.{Spot}
 use Rattle.items.proofs.Stands.{value_is}
@@ -45,25 +43,25 @@ first_or0 v a b r p q e = e ∙ ap (λ (o : Option ℕ). unwrap_or o 0) (q ∙ p
 
 -- ---- the timestamp
 
-time_away : (f : Found) → (spot_of f).start ≡ 0 → Absent ≡ time_of f
+time_away : (f : Found) → (spot_of f).start ≡ 0 → None ≡ time_of f
 unfolding spot_of time_of
 time_away none h = refl
 time_away (some i) h = absurd (omega arith)
 
-time_given : (f : Found) → ((spot_of f).start ≡ 0 → ⊥) → Given (decoded_for (value_of f)).stamp ≡ time_of f
+time_given : (f : Found) → ((spot_of f).start ≡ 0 → ⊥) → Some (decoded_for (value_of f)).stamp ≡ time_of f
 unfolding spot_of time_of value_of
 time_given none h = absurd (h refl)
 time_given (some i) h = refl
 
 module _ (S : List ℕ) (x : Spot) (e : x ≡ spot_of (find tist (cut_of S).items)) where
-  pub time_none : x.start ≡ 0 → Absent ≡ time_of (find tist (cut_of S).items)
+  pub time_none : x.start ≡ 0 → None ≡ time_of (find tist (cut_of S).items)
   time_none h = time_away (find tist (cut_of S).items) (sym (ap (λ (y : Spot). y.start) e) ∙ h)
 
   pub time_some : (x.start ≡ 0 → ⊥) → (v : List ℕ) → v ≡ shown_at S x → (o : Result Stamp Refusal) → stamped_in o ≡ decoded_for v
-      → (t : Stamp) → t ≡ (stamped_in o).stamp → Given t ≡ time_of (find tist (cut_of S).items)
+      → (t : Stamp) → t ≡ (stamped_in o).stamp → Some t ≡ time_of (find tist (cut_of S).items)
   time_some h v q o r t w =
       let k : v ≡ value_of (find tist (cut_of S).items) = q ∙ ap (shown_at S) e ∙ value_is S tist in
-      ap Given w ∙ ap (λ (y : Stamped). Given y.stamp) (r ∙ ap decoded_for k)
+      ap Some w ∙ ap (λ (y : Stamped). Some y.stamp) (r ∙ ap decoded_for k)
       ∙ time_given (find tist (cut_of S).items) (λ z. h (ap (λ (y : Spot). y.start) e ∙ z))
 
 -- ---- the record
@@ -74,7 +72,7 @@ shown S n x e v q = q ∙ ap (shown_at S) e ∙ value_is S n
 pub record_is : (S : List ℕ) (t : Spots) → t ≡ spots_of (cut_of S).items
     → (x1 x2 x3 x4 x5 : Spot) → x1 ≡ spot_in t 1 → x2 ≡ spot_in t 2 → x3 ≡ spot_in t 3 → x4 ≡ spot_in t 4 → x5 ≡ spot_in t 5
     → (a b c d e : List ℕ) → a ≡ shown_at S x1 → b ≡ shown_at S x2 → c ≡ shown_at S x3 → d ≡ shown_at S x4 → e ≡ shown_at S x5
-    → (count : ℕ) (f : Fac) (s : Sdc) (x : Description) (mode : ℕ) (time : Time)
+    → (count : ℕ) (f : Fac) (s : Sdc) (x : Description) (mode : ℕ) (time : Option Stamp)
     → count ≡ number_at 4 a 0 → f ≡ fac_of b → s ≡ sdc_of c → x ≡ described_by d → mode ≡ get_or e 0 0 → time ≡ time_of (find tist (cut_of S).items)
     → ◌≡◌ {A = Record} (record { count = count; fac = f; sdc = s; description = x; robustness = mode; time = time }) (record_of (cut_of S).items)
 unfolding record_of

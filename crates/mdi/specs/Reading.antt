@@ -1,16 +1,15 @@
 -- The record of an MDI packet and the bytes of its streams (01, "MDI packet"). Assumes nothing.
-use Rattle.std.specs.Prelude.{ℕ, ◌+◌, List, [], Result, Ok, Err, eqb, ltb, get_or}
+use Rattle.std.specs.Prelude.{ℕ, Option, None, Some, ◌+◌, List, [], Result, Ok, Err, eqb, ltb, get_or}
 use Rattle.laws.specs.Big.{number_at}
 use Rattle.laws.specs.Pick.{pick}
 use Rattle.laws.specs.Refuse.{refused_with, refused_at}
+use Rattle.clock.specs.declared.Stamp.{Stamp}
 use Rattle.clock.specs.Stamps.{decoded_for}
 use Rattle.description.specs.Bytes.{described_by}
 use Rattle.fac.specs.Channel.{fac_of}
 use Rattle.sdc.specs.Block.{sdc_of}
 use Rattle.record.specs.Records.{no_record}
 use Rattle.record.specs.declared.Record.{Record}
-use Rattle.record.specs.declared.Time.{Time}
-use Rattle.record.specs.declared.Time.TheVariants.{Absent, Given}
 use Rattle.items.specs.Items.{Item, Found, none, some, cut_of, find, value_of}
 use Rattle.mdi_spots.specs.Names.{dlfc, fac, sdc, sdci, robm, tist}
 use Rattle.mdi_spots.specs.Table.{name_of}
@@ -20,9 +19,9 @@ use Rattle.refusal.specs.Refusal.{number_of}
 use Rattle.refusal.specs.declared.Refused.{Refused}
 
 -- the timestamp, where the item is there
-unfoldable pub time_of : Found → Time
-time_of none = Absent
-time_of (some i) = Given (decoded_for i.value).stamp
+unfoldable pub time_of : Found → Option Stamp
+time_of none = None
+time_of (some i) = Some (decoded_for i.value).stamp
 
 -- what the items say
 unfoldable pub record_of : List Item → Record

@@ -12,10 +12,11 @@ ghost use Rattle.mdi.specs.Refusals.{content_tests, item_tests, check_for, verdi
 ghost use Rattle.mdi_spots.specs.Names.{tist};
 ghost use Rattle.mdi.specs.Reading.{time_of, record_of, read_for, read_in, stream_for};
 
+use clock::Stamp;
 use description::{Description, Lengths};
 use items::Spot;
 use mdi_spots::Spots;
-use record::{Record, Time};
+use record::Record;
 use refusal::{Refusal, Refused};
 
 fn is_there(x: Spot) -> bool
@@ -164,15 +165,14 @@ fn check(packet: &[u8]) -> Result<Spots, Refused>
     Ok(seen.spots)
 }
 
-fn time_of(s: &[u8], x: Spot) -> Time
+fn time_of(s: &[u8], x: Spot) -> Option<Stamp>
     requires { x ≡ spot_of (find tist (cut_of s.now).items) }
     ensures { result ≡ time_of (find tist (cut_of s.now).items) }
 {
     if x.start == 0 {
-        return Time::Absent;
+        return None;
     }
-    let stamp = clock::decode(items::value(s, x)).unwrap_or_default();
-    Time::Given { stamp }
+    Some(clock::decode(items::value(s, x)).unwrap_or_default())
 }
 
 fn record_of(s: &[u8], t: Spots) -> Record

@@ -4,6 +4,7 @@ use mathlib.Core.Bool.{true, false, ◌||◌}
 use mathlib.Core.Logic.{inr}
 use mathlib.Core.Path.{◌≡◌, refl, sym, ap, ap₂, ◌∙◌}
 use borrow.Author.Tests.{not-false, eqb-true, eq-eqb}
+use Rattle.std.specs.Prelude.{Option, None, Some}
 use lib.Dec.{ltb}
 use lib.ListN.{length}
 use Rattle.laws.proofs.Big.{bytes_length}
@@ -18,11 +19,9 @@ use Rattle.description.specs.WellFormed as described
 use Rattle.fac.specs.Channel as fast
 use Rattle.sdc.specs.Block as block
 use Rattle.record.specs.declared.Record.{Record}
-use Rattle.record.specs.declared.Time.{Time}
-use Rattle.record.specs.declared.Time.TheVariants.{Absent, Given}
 use Rattle.record.specs.Succession.{follows_for, Fitting, OnTime}
 use Rattle.record.proofs.Succession.{succession}
-use Rattle.mdi.specs.Reading.{Answer}
+use Rattle.mdi.specs.declared.Answer.{Answer}
 use Rattle.mdi_write.specs.Packet.{time_bytes, packet_of}
 use Rattle.mdi_write.specs.Answers.{bad_time, is_too_large, write_for, Fits}
 use Rattle.mdi_write.proofs.Values.{few}
@@ -40,10 +39,10 @@ alike v w = ap₂ (λ (r s : Record). follows_for r s) (back v) (back w)
 
 -- ---- a timestamp that is written fits
 
-good_time : (t : Time) → bad_time t ≡ false → Fitting t
+good_time : (t : Option Stamp) → bad_time t ≡ false → Fitting t
 unfolding bad_time
-good_time Absent e = tt
-good_time (Given a) e = within a (eqb-true _ _ (not-false _ e))
+good_time None e = tt
+good_time (Some a) e = within a (eqb-true _ _ (not-false _ e))
 
 module _ (w : Writing) where
   fitted : Fits w.content w.streams
@@ -58,7 +57,7 @@ module _ (w : Writing) where
   fits_time : Fitting w.content.time
   fits_time = good_time w.content.time parts.1
 
-leap : (v w : Writing) (a b : Stamp) → v.content.time ≡ Given a → w.content.time ≡ Given b → w.content.count ≡ (v.content.count + 1) % 2 ^ 32
+leap : (v w : Writing) (a b : Stamp) → v.content.time ≡ Some a → w.content.time ≡ Some b → w.content.count ≡ (v.content.count + 1) % 2 ^ 32
     → elapsed b ≡ elapsed a + 400 → OneApart a.utco b.utco → (follows_for (read_back v) (read_back w)).yes ≡ true
 unfolding elapsed
 leap v w a b ta tb c m u =
@@ -68,13 +67,13 @@ leap v w a b ta tb c m u =
 
 -- ---- any other UTCO is written as well
 
-module _ (w : Writing) (a : Stamp) (u : ℕ) (t : w.content.time ≡ Given a) (h : u < 2 ^ 14) where
+module _ (w : Writing) (a : Stamp) (u : ℕ) (t : w.content.time ≡ Some a) (h : u < 2 ^ 14) where
   fits_stamp : Within (with_utco a u)
   fits_stamp =
       let f : Within a = rw t at (fits_time w) in
       record { utco = h; seconds = f.seconds; milliseconds = f.milliseconds }
 
-  good : bad_time (Given (with_utco a u)) ≡ false
+  good : bad_time (Some (with_utco a u)) ≡ false
   unfolding bad_time
   good = simp (eq-eqb _ _ (fits (with_utco a u) fits_stamp))
 
@@ -85,7 +84,7 @@ module _ (w : Writing) (a : Stamp) (u : ℕ) (t : w.content.time ≡ Given a) (h
       record { short = f.short; sdc = f.sdc; fields = rw ((parts w).0, good) refl; served = f.served; formed = f.formed; lengths = f.lengths }
 
   -- a timestamp has 8 bytes, whichever it is
-  stamp_length : (s : Stamp) → length (time_bytes (Given s)) ≡ 8
+  stamp_length : (s : Stamp) → length (time_bytes (Some s)) ≡ 8
   unfolding time_bytes stamp_bytes
   stamp_length s = bytes_length 8 (bits_of s)
 

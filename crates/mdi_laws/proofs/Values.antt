@@ -4,12 +4,14 @@ use mathlib.Core.Path.{◌≡◌, refl, ap}
 use mathlib.Core.Bool.{Bool, true, false, ◌&&◌, ◌||◌}
 use mathlib.Core.Logic.{◌⊎◌, inl, inr}
 use mathlib.Core.List.{List, [], ◌∷◌}
+use Rattle.std.specs.Prelude.{Option, None, Some}
 use native.Mathlib.Omega.{arith}
 use borrow.Author.Tests.{le-leb, eq-eqb, ne_eqb, eqb-true, ltb-false, not-false}
 use lib.Dec.{ltb, eqb}
 use lib.ListN.{length, get_or}
 use Rattle.laws.specs.Pick.{pick}
 use Rattle.laws.proofs.Flags.{both, or_false}
+use Rattle.clock.specs.declared.Stamp.{Stamp}
 use Rattle.clock.specs.Stamps as clock
 use Rattle.clock.proofs.Back as stamp
 use Rattle.clock.proofs.Fit.{within}
@@ -22,8 +24,6 @@ use Rattle.description.proofs.Meaning as meaning
 use Rattle.sdc.specs.Block as block
 use Rattle.sdc.proofs.Back as blocks
 use Rattle.record.specs.declared.Record.{Record}
-use Rattle.record.specs.declared.Time.{Time}
-use Rattle.record.specs.declared.Time.TheVariants.{Absent, Given}
 use Rattle.items.specs.Items.{Found}
 use Rattle.items.specs.Joined.{Sound, chunk_size}
 use Rattle.mdi_spots.specs.Table.{exactly, whole_bytes, sdc_bits, sdci_bits}
@@ -61,12 +61,12 @@ module _ (r : Record) (ss : Streams) (ty : Typed r) (fits : Fits r ss) where
       go (inl e) = omega arith
       go (inr e) = e.1
 
-pub time_length : (t : Time) → (length (time_bytes t) ≡ 0) ⊎ (length (time_bytes t) ≡ 8)
+pub time_length : (t : Option Stamp) → (length (time_bytes t) ≡ 0) ⊎ (length (time_bytes t) ≡ 8)
 unfolding time_bytes
-time_length Absent = inl refl
-time_length (Given t) = inr (stamp.value_length_law t)
+time_length None = inl refl
+time_length (Some t) = inr (stamp.value_length_law t)
 
-pub time_most : (t : Time) → length (time_bytes t) ≤ 8
+pub time_most : (t : Option Stamp) → length (time_bytes t) ≤ 8
 time_most t = go (time_length t)
   where
     go : (length (time_bytes t) ≡ 0) ⊎ (length (time_bytes t) ≡ 8) → length (time_bytes t) ≤ 8
@@ -134,26 +134,26 @@ agreed_each d ss e =
     (eqb-true _ _ c.0, eqb-true _ _ c.1, eqb-true _ _ b.1, eqb-true _ _ a.1)
 
 -- ---- the timestamp
-pub time_good : (t : Time) → bad_time t ≡ false → (length (time_bytes t) ≡ 0 → ⊥) → on_time (time_bytes t) ≡ true
+pub time_good : (t : Option Stamp) → bad_time t ≡ false → (length (time_bytes t) ≡ 0 → ⊥) → on_time (time_bytes t) ≡ true
 unfolding time_bytes bad_time on_time
-time_good Absent b z = absurd (z refl)
-time_good (Given t) b z =
+time_good None b z = absurd (z refl)
+time_good (Some t) b z =
     let w = within t (eqb-true _ _ (not-false _ b)) in
     rw (stamp.decodes (clock.stamp_bytes t) (stamp.value_length_law t) (stamp.never_late t w)) refl
 
-pub time_size : (t : Time) → (length (time_bytes t) ≡ 0 → ⊥) → exactly 64 (8 * length (time_bytes t)) ≡ true
+pub time_size : (t : Option Stamp) → (length (time_bytes t) ≡ 0 → ⊥) → exactly 64 (8 * length (time_bytes t)) ≡ true
 time_size t z = go (time_length t)
   where
     go : (length (time_bytes t) ≡ 0) ⊎ (length (time_bytes t) ≡ 8) → exactly 64 (8 * length (time_bytes t)) ≡ true
     go (inl e) = absurd (z e)
     go (inr e) = rw e refl
 
-pub time_back : (f : Found) (t : Time) → bad_time t ≡ false → Stood f (time_bytes t) → time_of f ≡ t
+pub time_back : (f : Found) (t : Option Stamp) → bad_time t ≡ false → Stood f (time_bytes t) → time_of f ≡ t
 unfolding time_bytes bad_time time_of
-time_back f Absent b (gone g) = rw g.none_there refl
-time_back f Absent b (held h) = absurd (h.filled refl)
-time_back f (Given t) b (gone g) = let z : length (clock.stamp_bytes t) ≡ 0 = ap length g.empty in let k = stamp.value_length_law t in absurd (omega arith)
-time_back f (Given t) b (held h) =
+time_back f None b (gone g) = rw g.none_there refl
+time_back f None b (held h) = absurd (h.filled refl)
+time_back f (Some t) b (gone g) = let z : length (clock.stamp_bytes t) ≡ 0 = ap length g.empty in let k = stamp.value_length_law t in absurd (omega arith)
+time_back f (Some t) b (held h) =
     let w = within t (eqb-true _ _ (not-false _ b)) in
     let d = stamp.decodes (clock.stamp_bytes t) (stamp.value_length_law t) (stamp.never_late t w) in
     rw (h.there, h.value, d, stamp.stamp_back t w) refl

@@ -1,8 +1,10 @@
 -- One item written, and the values that are written as items. Assumes nothing.
 use Prim.Native.Nat.{ℕ, zero, suc, ◌+◌, ◌-◌, ◌*◌, ◌≤◌, ◌<◌}
-use mathlib.Core.Bool.{Bool, true, false, not, ◌||◌, ◌&&◌}
+use mathlib.Core.Bool.{Bool, true, false, true≢false, not, ◌||◌, ◌&&◌}
 use mathlib.Core.Path.{◌≡◌, refl, sym, ap, ap₂, ◌∙◌}
 use mathlib.Core.List.{List, [], ◌∷◌, ◌++◌, append_assoc, append-nil}
+use Rattle.std.specs.Prelude.{Option, None, Some, MatchOption}
+use Rattle.std.specs.Option.{is_some}
 use native.Mathlib.Nat.{add-zero}
 use native.Mathlib.Omega.{arith}
 use borrow.Author.Tests.{eq-eqb, ne_eqb, le-ltb, ltb-false, not-false, eqb-true}
@@ -43,8 +45,6 @@ use Rattle.sdc.specs.Block.{sdc_bytes}
 use Rattle.items.specs.Joined.{item_bytes, chunk, chunk_size}
 use Rattle.items.proofs.Joins.{item_length}
 use Rattle.record.specs.declared.Record.{Record}
-use Rattle.record.specs.declared.Time.{Time}
-use Rattle.record.specs.declared.Time.TheVariants.{Absent, Given}
 use Rattle.tag_spots.proofs.Names.{name_at}
 use Rattle.mdi_spots.specs.Table.{table, names_of, name_of}
 use Rattle.mdi_write.specs.Packet.{time_bytes}
@@ -221,36 +221,34 @@ pub mode_fits : (f : Fac) → fast.is_too_large f ≡ false → f.msc ≤ 3
 mode_fits f e = let h = (fits.channel f e).msc in omega arith
 
 -- ---- the timestamp
-module _ (time : Time) where
-  pub time_size_none : time ≡ Absent → (0 ≡ wire_size (length (time_bytes time))) × (0 ≤ 16)
+module _ (time : Option Stamp) where
+  pub time_size_none : is_some time ≡ false → (0 ≡ wire_size (length (time_bytes time))) × (0 ≤ 16)
   unfolding time_bytes chunk_size
-  time_size_none e = (rw e refl, omega arith)
+  time_size_none =
+      elim time as (λ o. is_some o ≡ false → (0 ≡ wire_size (length (time_bytes o))) × (0 ≤ 16)) [ None ↦ λ e. (refl, omega arith) | Some t ↦ λ e. absurd (true≢false e) ]
 
-  pub time_size_some : (t : Stamp) → time ≡ Given t → (16 ≡ wire_size (length (time_bytes time))) × (16 ≤ 16)
+  pub time_size_some : is_some time ≡ true → (16 ≡ wire_size (length (time_bytes time))) × (16 ≤ 16)
   unfolding time_bytes chunk_size
-  time_size_some t e = (rw (e, stamp.value_length_law t) refl, omega arith)
+  time_size_some =
+      elim time as (λ o. is_some o ≡ true → (16 ≡ wire_size (length (time_bytes o))) × (16 ≤ 16)) [ None ↦ λ e. absurd (true≢false (sym e)) | Some t ↦ λ e. (rw (stamp.value_length_law t) refl, omega arith) ]
 
-  pub bad_none : time ≡ Absent → false ≡ bad_time time
+  pub bad_by : (P : Stamp → Type 0) (r : Bool) → MatchOption time (r ≡ false) P → ((t : Stamp) → P t → r ≡ not (eqb (refused_with (clock.field_tests t)) 0)) → r ≡ bad_time time
   unfolding bad_time
-  bad_none e = rw e refl
-
-  pub bad_some : (t : Stamp) (b : Bool) → time ≡ Given t → b ≡ not (eqb (refused_with (clock.field_tests t)) 0) → b ≡ bad_time time
-  unfolding bad_time
-  bad_some t b e q = q ∙ rw e refl
+  bad_by P r m f = elim time as (λ o. MatchOption o (r ≡ false) P → r ≡ bad_time o) [ None ↦ λ e. e | Some t ↦ λ e. f t e ] m
 
   module _ (out : List ℕ) (at : ℕ) where
-    pub time_none : time ≡ Absent → (at ≡ at + wire_size (length (time_bytes time))) × (out ≡ written out at (wire (name_of 10) (time_bytes time)))
+    pub time_none : time ≡ None → (at ≡ at + wire_size (length (time_bytes time))) × (out ≡ written out at (wire (name_of 10) (time_bytes time)))
     unfolding time_bytes
     time_none e = rw e (item_none (name_of 10) [] out at refl)
 
-    pub time_ready : (t : Stamp) → time ≡ Given t → bad_time time ≡ false → at + wire_size (length (time_bytes time)) ≤ length out
+    pub time_ready : (t : Stamp) → time ≡ Some t → bad_time time ≡ false → at + wire_size (length (time_bytes time)) ≤ length out
         → clock.Within t × (at + wire_size (length (clock.stamp_bytes t)) ≤ length out)
     unfolding bad_time time_bytes
     time_ready t e b h =
         let b2 : not (eqb (refused_with (clock.field_tests t)) 0) ≡ false = rw e at b in
         (within t (eqb-true _ _ (not-false _ b2)), rw e at h)
 
-    pub time_some : (t : Stamp) (r : ℕ) (e : List ℕ) → time ≡ Given t → r ≡ at + wire_size (length (clock.stamp_bytes t)) → e ≡ written out at (wire (name_of 10) (clock.stamp_bytes t))
+    pub time_some : (t : Stamp) (r : ℕ) (e : List ℕ) → time ≡ Some t → r ≡ at + wire_size (length (clock.stamp_bytes t)) → e ≡ written out at (wire (name_of 10) (clock.stamp_bytes t))
         → (r ≡ at + wire_size (length (time_bytes time))) × (e ≡ written out at (wire (name_of 10) (time_bytes time)))
     unfolding time_bytes
     time_some t r e q p w = (p ∙ rw q refl, w ∙ rw q refl)

@@ -1,17 +1,16 @@
 -- What the writer refuses and answers (01, "Numbers given back"). Assumes nothing.
-use Rattle.std.specs.Prelude.{ℕ, Bool, true, false, not, ◌||◌, ◌≡◌, List, [], ◌∷◌, eqb, ltb, length}
+use Rattle.std.specs.Prelude.{ℕ, Option, None, Some, Bool, true, false, not, ◌||◌, ◌≡◌, List, [], ◌∷◌, eqb, ltb, length}
 use Rattle.laws.specs.Limits.{longest}
 use Rattle.laws.specs.Pick.{pick}
 use Rattle.laws.specs.Refuse.{Test, test, refused_with}
 use Rattle.laws.specs.Written.{written}
+use Rattle.clock.specs.declared.Stamp.{Stamp}
 use Rattle.clock.specs.Stamps.{field_tests}
 use Rattle.description.specs.declared.Description.{Description}
 use Rattle.description.specs.WellFormed as described
 use Rattle.fac.specs.Channel as fast
 use Rattle.sdc.specs.Block as block
 use Rattle.record.specs.declared.Record.{Record}
-use Rattle.record.specs.declared.Time.{Time}
-use Rattle.record.specs.declared.Time.TheVariants.{Absent, Given}
 use Rattle.mdi_spots.specs.Streams.{filled}
 use Rattle.moves.specs.Wrote.{Wrote, wrote_of}
 use Rattle.mdi_write.specs.Packet.{Streams, packet_of}
@@ -21,9 +20,9 @@ unfoldable pub any_long : Streams → Bool
 any_long ss = ltb longest (length ss.s0) || ltb longest (length ss.s1) || ltb longest (length ss.s2) || ltb longest (length ss.s3)
 
 -- a timestamp that is refused by itself: a field too large for its bits, or milliseconds over 999
-unfoldable pub bad_time : Time → Bool
-bad_time Absent = false
-bad_time (Given t) = not (eqb (refused_with (field_tests t)) 0)
+unfoldable pub bad_time : Option Stamp → Bool
+bad_time None = false
+bad_time (Some t) = not (eqb (refused_with (field_tests t)) 0)
 
 -- a field too large for its bits
 unfoldable pub is_too_large : Record → Bool

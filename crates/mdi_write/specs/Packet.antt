@@ -1,6 +1,7 @@
 -- An MDI packet as it is written (01, "MDI packet": the writer's order is the table's; empty items are left out). Assumes nothing.
-use Rattle.std.specs.Prelude.{ℕ, ◌*◌, List, [], ◌∷◌, ◌++◌, length}
+use Rattle.std.specs.Prelude.{ℕ, Option, None, Some, ◌*◌, List, [], ◌∷◌, ◌++◌, length}
 use Rattle.laws.specs.Big.{bytes_of}
+use Rattle.clock.specs.declared.Stamp.{Stamp}
 use Rattle.items.specs.Items.{Item}
 use Rattle.items.specs.Joined.{joined, kept}
 use Rattle.mdi_spots.specs.Names.{letters}
@@ -10,8 +11,6 @@ use Rattle.description.specs.Bytes as described
 use Rattle.fac.specs.Channel.{fac_bytes}
 use Rattle.sdc.specs.Block.{sdc_bytes}
 use Rattle.record.specs.declared.Record.{Record}
-use Rattle.record.specs.declared.Time.{Time}
-use Rattle.record.specs.declared.Time.TheVariants.{Absent, Given}
 
 -- the bytes of the four streams
 pub record Streams : Type 0 where
@@ -32,9 +31,9 @@ abbrev pub opening : List ℕ
 opening = letters ++ (0 ∷ 0 ∷ 0 ∷ 0 ∷ [])
 
 -- the value of a `tist` item: empty where there is no timestamp
-unfoldable pub time_bytes : Time → List ℕ
-time_bytes Absent = []
-time_bytes (Given t) = stamp_bytes t
+unfoldable pub time_bytes : Option Stamp → List ℕ
+time_bytes None = []
+time_bytes (Some t) = stamp_bytes t
 
 -- the values in the order of 01's table: those before the streams, the streams, the timestamp
 abbrev pub head_values : Record → List (List ℕ)

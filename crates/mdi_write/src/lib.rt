@@ -113,14 +113,14 @@ fn put_stamp(names: &[u8], t: clock::Stamp, out: &mut [u8], at: usize) -> usize
     put_item(names, mdi_spots::TIST, &value, out, at)
 }
 
-fn put_time(names: &[u8], time: record::Time, out: &mut [u8], at: usize) -> usize
+fn put_time(names: &[u8], time: Option<clock::Stamp>, out: &mut [u8], at: usize) -> usize
     requires { (names.now ≡ all_names) × (bad_time time ≡ false) × (at + wire_size (length (time_bytes time)) ≤ length out.old) }
     ensures value { result ≡ at + wire_size (length (time_bytes time)) }
     ensures out_after { out.new ≡ written out.old at (wire (name_of 10) (time_bytes time)) }
 {
     match time {
-        record::Time::Absent => at,
-        record::Time::Given { stamp } => put_stamp(names, stamp, out, at),
+        None => at,
+        Some(stamp) => put_stamp(names, stamp, out, at),
     }
 }
 
@@ -170,19 +170,10 @@ fn is_long(n0: usize, n1: usize, n2: usize, n3: usize) -> bool
 }
 
 // Whether a timestamp is refused by itself.
-fn is_bad(time: record::Time) -> bool
+fn is_bad(time: Option<clock::Stamp>) -> bool
     ensures { result ≡ bad_time time }
 {
-    match time {
-        record::Time::Absent => false,
-        record::Time::Given { stamp } => is_wrong(stamp),
-    }
-}
-
-fn is_wrong(t: clock::Stamp) -> bool
-    ensures { result ≡ not (eqb (refused_with (field_tests t)) 0) }
-{
-    clock::check(t).is_err()
+    time.is_some_and(|t| clock::check(t).is_err())
 }
 
 // Whether a field is too large for its bits.
@@ -208,13 +199,10 @@ fn is_agreed(d: description::Description, n0: usize, n1: usize, n2: usize, n3: u
     (n0 == s0.size()) & (n1 == s1.size()) & (n2 == s2.size()) & (n3 == s3.size())
 }
 
-fn time_size(time: record::Time) -> usize
+fn time_size(time: Option<clock::Stamp>) -> usize
     ensures { (result ≡ wire_size (length (time_bytes time))) × (result ≤ 16) }
 {
-    match time {
-        record::Time::Absent => 0,
-        record::Time::Given { stamp: _ } => 16,
-    }
+    if time.is_some() { 16 } else { 0 }
 }
 
 // The bytes of the packet with streams of these lengths.

@@ -7,7 +7,7 @@ use Rattle.clock.specs.Stamps.{decoded_for}
 use Rattle.clock.specs.Answers.{stamped_in}
 use Rattle.clock.specs.declared.Stamp.{Stamp}
 use Rattle.refusal.specs.declared.Refusal.{Refusal}
-use Rattle.std.specs.Prelude.{Result}
+use Rattle.std.specs.Prelude.{Some, Result, Ok, Err}
 use Rattle.description.specs.Bytes.{described_by}
 use Rattle.description.specs.declared.Description.{Description}
 use Rattle.fac.specs.Channel.{fac_of}
@@ -15,16 +15,13 @@ use Rattle.fac.specs.declared.Fac.{Fac}
 use Rattle.sdc.specs.Block.{sdc_of}
 use Rattle.sdc.specs.declared.Sdc.{Sdc}
 use Rattle.record.specs.declared.Record.{Record}
-use Rattle.record.specs.declared.Time.TheVariants.{Given}
 use Rattle.mdi.specs.Reading.{read_in, read_for}
 use Rattle.refusal.specs.Refusal.{number_of}
 use Rattle.refusal.specs.declared.Refused.{Refused}
-use Rattle.std.specs.Prelude.{Ok, Err}
 use Rattle.mdi_write.specs.Answers.{write_for, out_for}
 use Rattle.mdi_write.specs.Packet.{Streams}
 use Rattle.moves.specs.Wrote.{Wrote, wrote_in}
 use Rattle.refusal.specs.declared.Refusal.{Refusal}
-use Rattle.std.specs.Prelude.{Result}
 use Rattle.meter.specs.declared.Seen.{Seen}
 use Rattle.meter.specs.Seen.{seen_in, record_for, wrote_for}
 
@@ -45,7 +42,7 @@ seen_refused p at r e n q = rw (q, ← e, zeros 1024 at) refl
 
 pub made_is : (count mode : ℕ) (A B C D : List ℕ) (f : Fac) (s : Sdc) (x : Description) (o : Result Stamp Refusal) (t : Stamp)
     → f ≡ fac_of A → s ≡ sdc_of B → x ≡ described_by C → stamped_in o ≡ decoded_for D → t ≡ (stamped_in o).stamp
-    → ◌≡◌ {A = Record} (record { count = count; fac = f; sdc = s; description = x; robustness = mode; time = Given t }) (record_for count A B C mode D)
+    → ◌≡◌ {A = Record} (record { count = count; fac = f; sdc = s; description = x; robustness = mode; time = Some t }) (record_for count A B C mode D)
 unfolding record_for
 made_is count mode A B C D f s x o t q1 q2 q3 q4 q5 = rw (q1, q2, q3, q5, q4) refl
 

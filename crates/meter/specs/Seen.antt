@@ -1,12 +1,11 @@
 -- What the exports for MDI packets give back (01, "MDI packet"): the library's answers, and of a record what shows that it was made. Assumes
 -- nothing.
-use Rattle.std.specs.Prelude.{ℕ, List, get_or}
+use Rattle.std.specs.Prelude.{ℕ, Some, List, get_or}
 use Rattle.clock.specs.Stamps.{decoded_for}
 use Rattle.description.specs.Bytes.{described_by}
 use Rattle.fac.specs.Channel.{fac_of}
 use Rattle.sdc.specs.Block.{sdc_of}
 use Rattle.record.specs.declared.Record.{Record}
-use Rattle.record.specs.declared.Time.TheVariants.{Given}
 use Rattle.mdi.specs.Reading.{read_for}
 use Rattle.mdi_write.specs.Answers.{write_for}
 use Rattle.mdi_write.specs.Packet.{Streams}
@@ -33,7 +32,7 @@ record_for count fac sdc sdci robustness tist =
       sdc = sdc_of sdc;
       description = described_by sdci;
       robustness = robustness;
-      time = Given (decoded_for tist).stamp;
+      time = Some (decoded_for tist).stamp;
     }
 
 -- the number of a write

@@ -9,7 +9,7 @@ ghost use Rattle.mdi_write.specs.Answers.{out_for};
 ghost use Rattle.mdi_write.specs.Packet.{four};
 ghost use Rattle.meter.specs.Seen.{seen_in, record_for, wrote_for};
 
-use record::{Record, Time};
+use record::Record;
 use refusal::Refusal;
 
 // Of a packet read: the number, and what shows that its record was made. The byte is one of the SDC data, 0 where there is none.
@@ -90,8 +90,7 @@ fn record_of(count: u32, fac: &[u8], sdc: &[u8], sdci: &[u8], robustness: u8, ti
     let fac = fac::of_value(fac);
     let sdc = sdc::of_value(sdc);
     let description = description::of_value(sdci);
-    let stamp = clock::decode(tist).unwrap_or_default();
-    let time = Time::Given { stamp };
+    let time = Some(clock::decode(tist).unwrap_or_default());
     Record {
         count,
         fac,

@@ -1,48 +1,48 @@
 -- Which packets follow which, in numbers. Assumes nothing.
 use Rattle.std.proofs.Common.{◌≡◌, ◌+◌, ◌%◌, ◌^◌, true, false, ◌&&◌, refl, ◌∙◌, ⊎_elim, lit<, eq-eqb, eqb-true}
+use Rattle.std.specs.Prelude.{Option, None, Some}
 use Rattle.laws.specs.Refuse.{refused_with}
 use Rattle.laws.proofs.Join.{both_free, behind}
 use Rattle.laws.proofs.Refuse.{accepted}
 use Rattle.laws.proofs.Verdict.{yes_means, Numbered, numbered_join, numbered_real, one_number}
+use Rattle.clock.specs.declared.Stamp.{Stamp}
 use Rattle.clock.proofs.Fit.{within, fits}
 use Rattle.clock.proofs.Following.{six_fields, following}
 use Rattle.record.specs.declared.Record.{Record}
-use Rattle.record.specs.declared.Time.{Time}
-use Rattle.record.specs.declared.Time.TheVariants.{Absent, Given}
 use Rattle.record.specs.Succession.{count_follows, stamp_before, times_follow, time_tests, tests_for, follows_for, Fitting, OnTime, Succession}
 use Rattle.record.proofs.Ways.{free_time}
 use Rattle.record.proofs.Wraps.{follows_only}
 
 -- ---- the fields
 
-six_time : (t : Time) → Numbered 6 (time_tests t)
+six_time : (t : Option Stamp) → Numbered 6 (time_tests t)
 unfolding time_tests
-six_time Absent = tt
-six_time (Given a) = six_fields a
+six_time None = tt
+six_time (Some a) = six_fields a
 
-time_fits : (t : Time) → refused_with (time_tests t) ≡ 0 → Fitting t
+time_fits : (t : Option Stamp) → refused_with (time_tests t) ≡ 0 → Fitting t
 unfolding time_tests
-time_fits Absent e = tt
-time_fits (Given a) e = within a e
+time_fits None e = tt
+time_fits (Some a) e = within a e
 
-fits_time : (t : Time) → Fitting t → refused_with (time_tests t) ≡ 0
+fits_time : (t : Option Stamp) → Fitting t → refused_with (time_tests t) ≡ 0
 unfolding time_tests
-fits_time Absent f = refl
-fits_time (Given a) f = fits a f
+fits_time None f = refl
+fits_time (Some a) f = fits a f
 
 -- ---- the timestamps
 
-times_yes : (s t : Time) → Fitting s → Fitting t → OnTime s t → times_follow s t ≡ true
+times_yes : (s t : Option Stamp) → Fitting s → Fitting t → OnTime s t → times_follow s t ≡ true
 unfolding times_follow stamp_before
-times_yes Absent t f g o = refl
-times_yes (Given a) Absent f g o = refl
-times_yes (Given a) (Given b) f g o = following.yes a b f g o
+times_yes None t f g o = refl
+times_yes (Some a) None f g o = refl
+times_yes (Some a) (Some b) f g o = following.yes a b f g o
 
-times_only : (s t : Time) → times_follow s t ≡ true → OnTime s t
+times_only : (s t : Option Stamp) → times_follow s t ≡ true → OnTime s t
 unfolding times_follow stamp_before
-times_only Absent t e = tt
-times_only (Given a) Absent e = tt
-times_only (Given a) (Given b) e = (following.yes_only a b e).2
+times_only None t e = tt
+times_only (Some a) None e = tt
+times_only (Some a) (Some b) e = (following.yes_only a b e).2
 
 -- ---- the packets
 

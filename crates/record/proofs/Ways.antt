@@ -1,46 +1,38 @@
 -- The ways through the code, in its own words. Assumes nothing.
 use Rattle.std.proofs.Common.{◌≡◌, ℕ, ◌+◌, ◌%◌, ◌^◌, Bool, true, false, eqb, sym, refl, ◌∙◌, lit<, ne_eqb, eq-eqb}
+use Rattle.std.specs.Prelude.{Option, None, Some, MatchOption}
 use Rattle.laws.specs.Refuse.{refused_with, Free}
 use Rattle.laws.proofs.Join.{before, behind}
 use Rattle.laws.proofs.Refuse.{free}
 use Rattle.clock.specs.declared.Stamp.{Stamp}
-use Rattle.clock.specs.Answers.{Judged}
 use Rattle.clock.specs.Follows as stamps
 use Rattle.clock.specs.Stamps.{field_tests}
 use Rattle.record.specs.declared.Record.{Record}
-use Rattle.record.specs.declared.Time.{Time}
-use Rattle.record.specs.declared.Time.TheVariants.{Absent, Given}
 use Rattle.record.specs.Succession.{count_follows, stamp_before, times_follow, time_tests, tests_for, follows_for}
 
-pub tests_none : (t : Time) → t ≡ Absent → 0 ≡ refused_with (time_tests t)
+pub tests_none : (t : Option Stamp) → t ≡ None → 0 ≡ refused_with (time_tests t)
 unfolding time_tests
 tests_none t e = rw e refl
 
-pub tests_given : (t : Time) (a : Stamp) (n : ℕ) → t ≡ Given a → n ≡ refused_with (field_tests a) → n ≡ refused_with (time_tests t)
+pub tests_given : (t : Option Stamp) (a : Stamp) (n : ℕ) → t ≡ Some a → n ≡ refused_with (field_tests a) → n ≡ refused_with (time_tests t)
 unfolding time_tests
 tests_given t a n e h = rw e h
 
-pub before_none : (a : Stamp) (t : Time) → t ≡ Absent → true ≡ stamp_before a t
-unfolding stamp_before
-before_none a t e = rw e refl
+-- what is asked of a timestamp alone holds where there is none
+module _ (t : Option Stamp) (P : Stamp → Type 0) (r : Bool) (m : MatchOption t (r ≡ true) P) where
+  pub before_by : (a : Stamp) → ((b : Stamp) → P b → r ≡ (stamps.follows_for a b).yes) → r ≡ stamp_before a t
+  unfolding stamp_before
+  before_by a f = elim t as (λ o. MatchOption o (r ≡ true) P → r ≡ stamp_before a o) [ None ↦ λ e. e | Some b ↦ λ e. f b e ] m
 
-pub before_given : (a : Stamp) (t : Time) (b : Stamp) (v : Judged) → t ≡ Given b → v ≡ stamps.follows_for a b → v.yes ≡ stamp_before a t
-unfolding stamp_before
-before_given a t b v e h = rw (e, h) refl
-
-pub follow_none : (s t : Time) → s ≡ Absent → true ≡ times_follow s t
-unfolding times_follow
-follow_none s t e = rw e refl
-
-pub follow_given : (s t : Time) (a : Stamp) (b : Bool) → s ≡ Given a → b ≡ stamp_before a t → b ≡ times_follow s t
-unfolding times_follow
-follow_given s t a b e h = rw e h
+  pub follow_by : (u : Option Stamp) → ((a : Stamp) → P a → r ≡ stamp_before a u) → r ≡ times_follow t u
+  unfolding times_follow
+  follow_by u f = elim t as (λ o. MatchOption o (r ≡ true) P → r ≡ times_follow o u) [ None ↦ λ e. e | Some a ↦ λ e. f a e ] m
 
 -- a timestamp with a field too large is refused with 6, so no number of these tests is 0
-pub free_time : (t : Time) → refused_with (time_tests t) ≡ 0 → Free (time_tests t)
+pub free_time : (t : Option Stamp) → refused_with (time_tests t) ≡ 0 → Free (time_tests t)
 unfolding time_tests field_tests
-free_time Absent e = tt
-free_time (Given a) e = free (field_tests a) (lit< tt, (lit< tt, (lit< tt, tt))) e
+free_time None e = tt
+free_time (Some a) e = free (field_tests a) (lit< tt, (lit< tt, (lit< tt, tt))) e
 
 module _ (a b : Record) where
   pub follows_first : (n : ℕ) → n ≡ refused_with (time_tests a.time) → (n ≡ 0 → ⊥) → record { number = n; yes = false } ≡ follows_for a b

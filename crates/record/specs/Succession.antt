@@ -1,6 +1,6 @@
 -- Two packets follow each other if the counts do and, where both have a timestamp, the timestamps do (01, "Clock and recordings"; which
 -- timestamps do: 02, E3). Assumes nothing.
-use Rattle.std.specs.Prelude.{◌≡◌, ℕ, ◌+◌, ◌%◌, ◌^◌, Bool, true, false, ◌&&◌, List, [], ◌++◌, ◌==◌}
+use Rattle.std.specs.Prelude.{◌≡◌, ℕ, Option, None, Some, ◌+◌, ◌%◌, ◌^◌, Bool, true, false, ◌&&◌, List, [], ◌++◌, ◌==◌}
 use Rattle.laws.specs.Pick.{pick}
 use Rattle.laws.specs.Refuse.{Test, refused_with}
 use Rattle.clock.specs.declared.Stamp.{Stamp}
@@ -10,26 +10,24 @@ use Rattle.clock.specs.Following.{FrameLater}
 use Rattle.clock.specs.Stamps.{Within, field_tests}
 use Rattle.clock.specs.Next.{next_for}
 use Rattle.record.specs.declared.Record.{Record}
-use Rattle.record.specs.declared.Time.{Time}
-use Rattle.record.specs.declared.Time.TheVariants.{Absent, Given}
 
 -- the frame after FFFFFFFF is 0
 unfoldable pub count_follows : ℕ → ℕ → Bool
 count_follows a b = b == (a + 1) % 2 ^ 32
 
 -- nothing is asked of a packet that has no timestamp
-unfoldable pub stamp_before : Stamp → Time → Bool
-stamp_before a Absent = true
-stamp_before a (Given b) = (stamps.follows_for a b).yes
+unfoldable pub stamp_before : Stamp → Option Stamp → Bool
+stamp_before a None = true
+stamp_before a (Some b) = (stamps.follows_for a b).yes
 
-unfoldable pub times_follow : Time → Time → Bool
-times_follow Absent t = true
-times_follow (Given a) t = stamp_before a t
+unfoldable pub times_follow : Option Stamp → Option Stamp → Bool
+times_follow None t = true
+times_follow (Some a) t = stamp_before a t
 
 -- the refusals: the fields of a timestamp that is there
-unfoldable pub time_tests : Time → List Test
-time_tests Absent = []
-time_tests (Given a) = field_tests a
+unfoldable pub time_tests : Option Stamp → List Test
+time_tests None = []
+time_tests (Some a) = field_tests a
 
 unfoldable pub tests_for : Record → Record → List Test
 tests_for a b = time_tests a.time ++ time_tests b.time
@@ -40,15 +38,15 @@ follows_for a b =
     record { number = number; yes = pick (number == 0) (count_follows a.count b.count && times_follow a.time b.time) false }
 
 -- a timestamp that is there fits
-abbrev pub Fitting : Time → Type 0
-Fitting Absent = Unit {0}
-Fitting (Given a) = Within a
+abbrev pub Fitting : Option Stamp → Type 0
+Fitting None = Unit {0}
+Fitting (Some a) = Within a
 
 -- where both have one, the second is 400 ms on and its UTCO the same, one more or one less
-abbrev pub OnTime : Time → Time → Type 0
-OnTime (Given a) (Given b) = FrameLater a b
-OnTime (Given a) Absent = Unit {0}
-OnTime Absent t = Unit {0}
+abbrev pub OnTime : Option Stamp → Option Stamp → Type 0
+OnTime (Some a) (Some b) = FrameLater a b
+OnTime (Some a) None = Unit {0}
+OnTime None t = Unit {0}
 
 -- which packets follow which, in numbers
 pub record Succession : Type 0 where
@@ -67,4 +65,4 @@ pub record Ends : Type 0 where
   -- and no other count
   pub no_other : (a b : Record) → a.count ≡ 0xffffffff → (follows_for a b).yes ≡ true → b.count ≡ 0
   -- nothing with a timestamp follows a timestamp without a successor
-  pub no_successor : (a b : Record) (s t : Stamp) → a.time ≡ Given s → b.time ≡ Given t → (next_for s).number ≡ 18 → (follows_for a b).yes ≡ false
+  pub no_successor : (a b : Record) (s t : Stamp) → a.time ≡ Some s → b.time ≡ Some t → (next_for s).number ≡ 18 → (follows_for a b).yes ≡ false

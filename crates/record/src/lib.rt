@@ -12,13 +12,6 @@ ghost use Rattle.record.specs.Succession.{time_tests, stamp_before, times_follow
 use clock::Stamp;
 use refusal::Refusal;
 
-// The timestamp, where there is one.
-#[derive(Clone, Copy)]
-pub enum Time {
-    Absent,
-    Given { stamp: Stamp },
-}
-
 #[derive(Clone, Copy)]
 pub struct Record {
     pub count: u32,
@@ -26,7 +19,7 @@ pub struct Record {
     pub sdc: sdc::Sdc,
     pub description: description::Description,
     pub robustness: u8,
-    pub time: Time,
+    pub time: Option<Stamp>,
 }
 
 // What a refused read gives: all zeros, no block, no stream, no timestamp.
@@ -37,43 +30,36 @@ pub fn none() -> Record
     let f = fac::of_value(&empty);
     let s = sdc::absent();
     let d = description::of_value(&empty);
-    let time = Time::Absent;
     Record {
         count: 0,
         fac: f,
         sdc: s,
         description: d,
         robustness: 0,
-        time,
+        time: None,
     }
 }
 
 // Refused where there is a timestamp and a field of it is too large.
-fn check_time(t: Time) -> Result<(), Refusal>
+fn check_time(t: Option<Stamp>) -> Result<(), Refusal>
     ensures { number_in result ≡ refused_with (time_tests t) }
 {
     match t {
-        Time::Absent => Ok(()),
-        Time::Given { stamp } => clock::check(stamp),
+        None => Ok(()),
+        Some(stamp) => clock::check(stamp),
     }
 }
 
-fn is_before(a: Stamp, t: Time) -> bool
+fn is_before(a: Stamp, t: Option<Stamp>) -> bool
     ensures { result ≡ stamp_before a t }
 {
-    match t {
-        Time::Absent => true,
-        Time::Given { stamp } => clock::follows(a, stamp).unwrap_or(false),
-    }
+    t.is_none_or(|b| clock::follows(a, b).unwrap_or(false))
 }
 
-fn times_follow(s: Time, t: Time) -> bool
+fn times_follow(s: Option<Stamp>, t: Option<Stamp>) -> bool
     ensures { result ≡ times_follow s t }
 {
-    match s {
-        Time::Absent => true,
-        Time::Given { stamp } => is_before(stamp, t),
-    }
+    s.is_none_or(|a| is_before(a, t))
 }
 
 // Whether the second packet follows the first: by its count and, where both have a timestamp, by these. Refused with 6: a field of either

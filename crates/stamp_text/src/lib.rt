@@ -9,7 +9,6 @@ ghost use Rattle.stamp_text.specs.Stamp.{since, utc_text, stamp_text, time_text}
 
 use calendar::Date;
 use clock::Stamp;
-use record::Time;
 
 fn less(seconds: u64, utco: u64) -> u64
     ensures { result ≡ seconds - utco }
@@ -21,12 +20,12 @@ fn less(seconds: u64, utco: u64) -> u64
 }
 
 // The seconds in UTC; 0 where there is no timestamp, or its seconds are fewer than its UTCO.
-pub fn since(t: Time) -> u64
+pub fn since(t: Option<Stamp>) -> u64
     ensures { result ≡ since t }
 {
     match t {
-        Time::Absent => 0,
-        Time::Given { stamp } => less(stamp.seconds, stamp.utco as u64),
+        None => 0,
+        Some(stamp) => less(stamp.seconds, stamp.utco as u64),
     }
 }
 
@@ -93,18 +92,18 @@ fn put_stamp(s: Stamp, d: Date, out: &mut [u8], at: usize) -> usize
     line_text::named(b" seconds ", s.seconds, out, a)
 }
 
-fn put_time(t: Time, d: Date, out: &mut [u8], at: usize) -> usize
+fn put_time(t: Option<Stamp>, d: Date, out: &mut [u8], at: usize) -> usize
     requires { at + 69 ≤ length out.old }
     ensures { (result ≤ at + 69) × Puts out.old at (time_text t d) out.new result }
 {
     match t {
-        Time::Absent => line_text::word(b" no timestamp", out, at),
-        Time::Given { stamp } => put_stamp(stamp, d, out, at),
+        None => line_text::word(b" no timestamp", out, at),
+        Some(stamp) => put_stamp(stamp, d, out, at),
     }
 }
 
 // A timestamp whose date in UTC is d.
-pub fn time(t: Time, d: Date, out: &mut [u8], at: usize) -> usize
+pub fn time(t: Option<Stamp>, d: Date, out: &mut [u8], at: usize) -> usize
     ensures { (result ≤ at + 69) × Placed 69 out.old at (time_text t d) out.new result }
 {
     if out.len() < at {

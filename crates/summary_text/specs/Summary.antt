@@ -1,12 +1,12 @@
 -- The summary that the program `inspect` prints at the end of the walk (01, "Clock and recordings"). Assumes nothing.
-use Rattle.std.specs.Prelude.{ℕ, suc, List, [], ◌∷◌, ◌++◌, eqb, get_or, take, drop}
+use Rattle.std.specs.Prelude.{ℕ, Option, suc, List, [], ◌∷◌, ◌++◌, eqb, get_or, take, drop}
 use Rattle.laws.specs.Pick.{pick}
+use Rattle.clock.specs.declared.Stamp.{Stamp}
 use Rattle.moves.specs.Moves.{Puts}
 use Rattle.line_text.specs.Decimal.{ascii, decimal, number_line}
 use Rattle.stamp_text.specs.Stamp.{since, time_text}
 use Rattle.calendar.specs.Calendar.{DateOf}
 use Rattle.calendar.specs.declared.Date.{Date}
-use Rattle.record.specs.declared.Time.{Time}
 use Rattle.tally.specs.declared.Tally.{Tally}
 
 -- how many packets were refused with a number, where some were
@@ -18,10 +18,10 @@ unfoldable pub numbers_text : ℕ → List ℕ → List ℕ
 numbers_text number [] = []
 numbers_text number (n ∷ ns) = times_text number n ++ numbers_text (suc number) ns
 
-unfoldable pub when_text : List ℕ → Time → Date → List ℕ
+unfoldable pub when_text : List ℕ → Option Stamp → Date → List ℕ
 when_text word t d = word ++ (time_text t d ++ ascii "\n")
 
-unfoldable pub whens_text : Time → Date → Time → Date → List ℕ
+unfoldable pub whens_text : Option Stamp → Date → Option Stamp → Date → List ℕ
 whens_text s d t e = when_text (ascii "first") s d ++ when_text (ascii "last") t e
 
 unfoldable pub summary_text : Tally → Date → Date → List ℕ

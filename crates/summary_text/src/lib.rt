@@ -7,7 +7,7 @@ ghost use Rattle.moves.specs.Moves.{Puts};
 ghost use Rattle.summary_text.specs.Summary.{times_text, numbers_text, when_text, whens_text, Summary};
 
 use calendar::Date;
-use record::Time;
+use clock::Stamp;
 use tally::Tally;
 
 // How many packets got a number, where some did.
@@ -34,7 +34,7 @@ fn put_numbers(ns: &[u64; 12], out: &mut [u8], at: usize) -> usize
 }
 
 // A word, a timestamp and the end of the line.
-fn put_when(word: &[u8], t: Time, d: Date, out: &mut [u8], at: usize) -> usize
+fn put_when(word: &[u8], t: Option<Stamp>, d: Date, out: &mut [u8], at: usize) -> usize
     requires { (at + 80 ≤ length out.old) × (length word.now ≤ 10) }
     ensures { (result ≤ at + 80) × Puts out.old at (when_text word.now t d) out.new result }
 {
@@ -43,7 +43,14 @@ fn put_when(word: &[u8], t: Time, d: Date, out: &mut [u8], at: usize) -> usize
     line_text::word(b"\n", out, b)
 }
 
-fn put_whens(s: Time, d: Date, t: Time, e: Date, out: &mut [u8], at: usize) -> usize
+fn put_whens(
+    s: Option<Stamp>,
+    d: Date,
+    t: Option<Stamp>,
+    e: Date,
+    out: &mut [u8],
+    at: usize,
+) -> usize
     requires { at + 160 ≤ length out.old }
     ensures { (result ≤ at + 160) × Puts out.old at (whens_text s d t e) out.new result }
 {

@@ -1,18 +1,17 @@
 -- What is counted over a recording (01, "Clock and recordings"). Assumes nothing.
-use Rattle.std.specs.Prelude.{ℕ, ◌+◌, ◌%◌, ◌^◌, Bool, replicate, slice_index, slice_set}
+use Rattle.std.specs.Prelude.{ℕ, Option, None, Some, ◌+◌, ◌%◌, ◌^◌, Bool, replicate, slice_index, slice_set}
 use Rattle.laws.specs.Pick.{pick}
+use Rattle.clock.specs.declared.Stamp.{Stamp}
 use Rattle.mdi.specs.declared.Answer.{Answer}
-use Rattle.record.specs.declared.Time.{Time}
-use Rattle.record.specs.declared.Time.TheVariants.{Absent, Given}
 use Rattle.tally.specs.declared.Tally.{Tally}
 
 unfoldable pub no_tally : Tally
-no_tally = record { packets = 0; numbers = replicate 12 0; breaks = 0; first = Absent; last = Absent }
+no_tally = record { packets = 0; numbers = replicate 12 0; breaks = 0; first = None; last = None }
 
 -- the first timestamp that is there
-unfoldable pub earlier : Time → Time → Time
-earlier Absent t = t
-earlier (Given s) t = Given s
+unfoldable pub earlier : Option Stamp → Option Stamp → Option Stamp
+earlier None t = t
+earlier (Some s) t = Some s
 
 -- one more, in 64 bits
 abbrev pub up : ℕ → ℕ

@@ -3,10 +3,10 @@
 #![tactic(auto)]
 
 ghost use Rattle.std.specs.Prelude.{◌≡◌};
-ghost use Rattle.tally.specs.Tally.{no_tally, earlier, more_for, counted_for};
+ghost use Rattle.tally.specs.Tally.{no_tally, more_for, counted_for};
 
+use clock::Stamp;
 use mdi::Answer;
-use record::Time;
 
 // `numbers` has for each number that `mdi::read` gives, 0 to 11, how many packets got it: 0 is a packet that was read. Counts wrap at 2^64.
 #[derive(Clone, Copy)]
@@ -14,32 +14,20 @@ pub struct Tally {
     pub packets: u64,
     pub numbers: [u64; 12],
     pub breaks: u64,
-    pub first: Time,
-    pub last: Time,
+    pub first: Option<Stamp>,
+    pub last: Option<Stamp>,
 }
 
 // Before the first packet.
 pub fn none() -> Tally
     ensures { result ≡ no_tally }
 {
-    let first = Time::Absent;
-    let last = Time::Absent;
     Tally {
         packets: 0,
         numbers: [0; 12],
         breaks: 0,
-        first,
-        last,
-    }
-}
-
-// The first of the two that is there.
-fn earlier_of(a: Time, b: Time) -> Time
-    ensures { result ≡ earlier a b }
-{
-    match a {
-        Time::Absent => b,
-        Time::Given { stamp } => Time::Given { stamp },
+        first: None,
+        last: None,
     }
 }
 
@@ -61,10 +49,8 @@ pub fn count(t: Tally, a: Answer, broke: bool) -> Tally
     numbers[i] = std::num::wrapping_add_u64(numbers[i], 1);
     let c = a.content;
     let time = c.time;
-    let was_first = t.first;
-    let was_last = t.last;
-    let first = earlier_of(was_first, time);
-    let last = earlier_of(time, was_last);
+    let first = t.first.or(time);
+    let last = time.or(t.last);
     let breaks = more(t.breaks, broke);
     Tally {
         packets: std::num::wrapping_add_u64(t.packets, 1),

@@ -7,4 +7,4 @@ pub returns-then-x-eq0 : goal.returns-then-x-eq0
 returns-then-x-eq0 c = search time_none
 
 pub returns : goal.returns
-returns c = time_some _ _ c.requires c.if-x-eq0.false _ c.value.ensures _ c.decode.ensures _ (stamp_of c.decode.result _ c.unwrap_or_default-stamp.ensures)
+returns c = time_some _ _ c.requires c.if-x-eq0.false _ c.value.ensures _ c.decode.ensures _ (stamp_of c.decode.result _ c.unwrap_or_default.ensures)

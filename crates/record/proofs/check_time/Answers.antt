@@ -3,8 +3,8 @@ use Rattle.std.proofs.Common.{rules}
 use Rattle.record.proofs.Ways.{tests_none, tests_given}
 use Rattle.record.proofs.check_time.Goals as goal
 
-pub returns-in-Absent : goal.returns-in-Absent
-returns-in-Absent c = search tests_none
+pub returns-in-None : goal.returns-in-None
+returns-in-None c = search tests_none
 
-pub returns-in-Given : goal.returns-in-Given
-returns-in-Given c = search (tests_given, rules)
+pub returns-in-Some : goal.returns-in-Some
+returns-in-Some c = search (tests_given, rules)

@@ -5,12 +5,12 @@ use Rattle.line_text.proofs.Room.{fit}
 use borrow.Author.Rules.{rules}
 use Rattle.stamp_text.proofs.put_time.Goals as goal
 
-pub returns-in-Absent : goal.returns-in-Absent
-returns-in-Absent c =
+pub returns-in-None : goal.returns-in-None
+returns-in-None c =
     let p0 = fit (omega arith) c.word.ensures.1 in
     (omega arith, time_none _ _ (search rules) p0)
 
-pub returns-in-Given : goal.returns-in-Given
-returns-in-Given c =
+pub returns-in-Some : goal.returns-in-Some
+returns-in-Some c =
     let p0 = c.put_stamp.ensures.1 in
     (omega arith, time_given _ _ _ (search rules) p0)
