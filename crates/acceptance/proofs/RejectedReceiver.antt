@@ -4,8 +4,7 @@ use Prim.Native.Nat.{ℕ}
 use mathlib.Core.Path.{◌≡◌, sym, ap, ◌∙◌, subst}
 use mathlib.Core.List.{List, [], ◌∷◌}
 use lib.ListN.{replicate, length-replicate}
-use Rattle.receiver.specs.declared.Told.{Told}
-use Rattle.receiver.specs.declared.Answer.TheVariants.{Delivered}
+use Rattle.receiver.specs.Answer.{Told, Delivered}
 use Rattle.receiver.specs.Receiver.{Stepped}
 use Rattle.receiver.specs.Dropped.{told_for}
 use Rattle.receiver.proofs.Examples.{open_with, empty_unit}

@@ -9,10 +9,9 @@ use Rattle.hand.specs.declared.Settings.{Settings}
 use Rattle.mdi.specs.declared.Answer.{Answer}
 use Rattle.mdi.specs.Reading.{read_for}
 use Rattle.packet.specs.Packet.{decode}
-use Rattle.receiver.specs.declared.Answer as heard
-use Rattle.receiver.specs.declared.Answer.TheVariants.{Nothing, Delivered, Refused}
+use Rattle.receiver.specs.Answer as heard
+use Rattle.receiver.specs.Answer.{Nothing, Delivered, Refused, Told}
 use Rattle.receiver.specs.declared.Receiver.{Receiver}
-use Rattle.receiver.specs.declared.Told.{Told}
 use Rattle.receiver.specs.Receiver.{buffer_for}
 use Rattle.receiver.specs.Dropped.{told_for}
 use Rattle.sender.specs.declared.Framed.{Framed}

@@ -3,6 +3,7 @@
 
 use cases::case;
 use packet::Head;
+use refusal::Refusal;
 use saying::Said;
 
 fn number_at(body: &[u8], at: usize) -> usize {
@@ -10,11 +11,13 @@ fn number_at(body: &[u8], at: usize) -> usize {
 }
 
 pub fn packet_check(body: &[u8], s: &[u8]) -> Said {
-    saying::begin(packet::check(number_at(body, 0), s), 0)
+    let (number, ()) = saying::numbered(packet::check(number_at(body, 0), s));
+    saying::begin(number, 0)
 }
 
-fn told(h: Head) -> Said {
-    let said = saying::begin(h.number, 0);
+fn told(answer: Result<Head, Refusal>) -> Said {
+    let (number, h) = saying::numbered(answer);
+    let said = saying::begin(number, 0);
     let said = saying::three(said, h.first as u64, h.last as u64, h.id as u64);
     saying::three(said, h.padded as u64, h.index as u64, h.length as u64)
 }
@@ -35,5 +38,6 @@ pub fn packet_write(body: &[u8], useful: &[u8], dst: &mut [u8]) -> Said {
     let id = case::byte(body, 10);
     let index = case::byte(body, 11);
     let done = packet::write(number_at(body, 0), first, last, id, index, useful, dst);
-    saying::one(done.number, done.length as u64)
+    let (number, length) = saying::numbered(done);
+    saying::one(number, length as u64)
 }

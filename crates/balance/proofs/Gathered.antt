@@ -13,8 +13,7 @@ use Rattle.laws.specs.Pick.{pick}
 use Rattle.packet.specs.Packet.{Chunk, Packet}
 use Rattle.receiver.specs.declared.Link.{Link}
 use Rattle.receiver.specs.declared.Receiver.{Receiver}
-use Rattle.receiver.specs.declared.Told.{Told}
-use Rattle.receiver.specs.declared.Answer.TheVariants.{Refused}
+use Rattle.receiver.specs.Answer.{Told, Refused}
 use Rattle.receiver.specs.Link.{base_of, Fate, delivered, added, dropped, skipped, fate_of, link_after, no_link}
 use Rattle.receiver.specs.Receiver.{link_of, link_in, fate_in, base_in, fresh, answer_by, answer_in, taken_in}
 use Rattle.receiver.specs.Bytes.{open_of, dropped_bytes, skipped_bytes}

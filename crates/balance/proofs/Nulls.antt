@@ -8,7 +8,7 @@ use Rattle.laws.specs.Pick.{pick}
 use Rattle.laws.specs.Sum.{sum}
 use Rattle.receiver.specs.declared.Link.{Link}
 use Rattle.receiver.specs.declared.Receiver.{Receiver}
-use Rattle.receiver.specs.declared.Told.{Told}
+use Rattle.receiver.specs.Answer.{Told}
 use Rattle.receiver.specs.Link.{kept, null_of, joins, adds, completes, Fate, skipped, fate_of}
 use Rattle.receiver.specs.Receiver.{link_of, base_in, answer_by, answer_in, taken_in}
 use Rattle.receiver.specs.Bytes.{open_of, dropped_by, gone_of, dropped_bytes}

@@ -2,7 +2,7 @@
 use mathlib.Core.Path.{◌≡◌}
 use mathlib.Core.Bool.{true, false}
 use Rattle.receiver.specs.declared.Receiver.{Receiver}
-use Rattle.receiver.specs.declared.Answer.TheVariants.{Refused}
+use Rattle.receiver.specs.Answer.{Refused}
 use Rattle.receiver.specs.Receiver.{step_number, step_for}
 use Rattle.receiver.specs.Dropped.{dropped_for, told_in, told_for}
 use Rattle.receiver.specs.Run.{Input}

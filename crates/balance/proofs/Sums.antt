@@ -11,8 +11,7 @@ use Rattle.laws.specs.Sum.{sum}
 use Rattle.packet.specs.Packet.{Packet}
 use Rattle.receiver.specs.declared.Link.{Link}
 use Rattle.receiver.specs.declared.Receiver.{Receiver}
-use Rattle.receiver.specs.declared.Told.{Told}
-use Rattle.receiver.specs.declared.Answer.TheVariants.{Refused}
+use Rattle.receiver.specs.Answer.{Told, Refused}
 use Rattle.receiver.specs.Link.{Fate, delivered, added, dropped, skipped, no_link}
 use Rattle.receiver.specs.Receiver.{link_of, link_in, fate_in, base_in, answer_by, answer_in, taken_in}
 use Rattle.receiver.specs.Bytes.{open_of, delivered_by, delivered_bytes}

@@ -5,9 +5,7 @@ use Rattle.laws.specs.Pick.{pick}
 use Rattle.laws.specs.Sum.{sum}
 use Rattle.packet.specs.Packet.{Chunk, Packet, decode}
 use Rattle.receiver.specs.declared.Receiver.{Receiver}
-use Rattle.receiver.specs.declared.Told.{Told}
-use Rattle.receiver.specs.declared.Answer.{Answer}
-use Rattle.receiver.specs.declared.Answer.TheVariants.{Nothing, Delivered, Refused}
+use Rattle.receiver.specs.Answer.{Told, Answer, Nothing, Delivered, Refused}
 use Rattle.receiver.specs.Link.{kept, null_of, Fate, delivered, added, dropped, skipped, fate_of}
 use Rattle.receiver.specs.Receiver.{link_of, step_number}
 use Rattle.receiver.specs.Bytes.{open_of}

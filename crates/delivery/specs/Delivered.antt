@@ -4,8 +4,7 @@ use Rattle.std.specs.Prelude.{ℕ, List, [], ◌∷◌, ◌++◌, eqb, length, t
 use Rattle.laws.specs.Part.{part_of}
 use Rattle.laws.specs.Pick.{pick}
 use Rattle.receiver.specs.declared.Receiver.{Receiver}
-use Rattle.receiver.specs.declared.Answer.{Answer}
-use Rattle.receiver.specs.declared.Answer.TheVariants.{Nothing, Delivered, Refused}
+use Rattle.receiver.specs.Answer.{Answer, Nothing, Delivered, Refused}
 use Rattle.receiver.specs.Receiver.{fresh, step_for, buffer_for}
 use Rattle.receiver.specs.Line.{Line, line_of}
 

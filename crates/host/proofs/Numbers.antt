@@ -1,29 +1,13 @@
 -- The receiver's answer in numbers says what the library's says. Assumes nothing.
 use Prim.Native.Nat.{ℕ}
-use mathlib.Core.Bool.{true, false}
 use mathlib.Core.Path.{◌≡◌, refl, ap, ◌∙◌}
 use mathlib.Core.List.{List}
 use Rattle.receiver.specs.declared.Receiver.{Receiver}
-use Rattle.receiver.specs.declared.Answer.{Answer}
-use Rattle.receiver.specs.declared.Answer.TheVariants.{Nothing, Delivered, Refused}
-use Rattle.receiver.specs.declared.Told.{Told}
+use Rattle.receiver.specs.Answer.{Answer, Nothing, Delivered, Refused, Told}
 use Rattle.receiver.specs.Receiver.{told}
 use Rattle.receiver.specs.Dropped.{told_for, reported, report_for}
 use Rattle.host.specs.declared.Received.{Received}
 use Rattle.host.specs.Received.{received_by, received_for, SameDropped, said}
-
-module _ (a : Answer) (d : ℕ) (r : Receiver) where
-  pub of_nothing : a ≡ Nothing → record { number = 0; delivered = false; id = 0; length = 0; dropped = d; next = r } ≡ received_by a d r
-  unfolding received_by
-  of_nothing h = simp h
-
-  pub of_delivered : (i n : ℕ) → a ≡ Delivered i n → record { number = 0; delivered = true; id = i; length = n; dropped = d; next = r } ≡ received_by a d r
-  unfolding received_by
-  of_delivered i n h = simp h
-
-  pub of_refused : (n : ℕ) → a ≡ Refused n → record { number = n; delivered = false; id = 0; length = 0; dropped = d; next = r } ≡ received_by a d r
-  unfolding received_by
-  of_refused n h = simp h
 
 pub says_same : (a : Answer) (d : ℕ) (r : Receiver) → said (received_by a d r) ≡ reported a d
 unfolding received_by said reported told

@@ -1,5 +1,5 @@
--- The promises of the receiver's calls and of dispersal settle them; the others have the library's own promises, whose theorems stand beside the
--- library's calls.
+-- The promises of dispersal, of the packet check and of the receiver's calls settle them; the others have the library's own promises, whose
+-- theorems stand beside the library's calls.
 -- Assumes nothing.
 use mathlib.Core.Path.{◌≡◌}
 use mathlib.Core.List.{List}
@@ -8,10 +8,15 @@ use lib.ListN.{length}
 use Rattle.laws.specs.Settle.{Settles}
 use Rattle.laws.proofs.Settle.{settled, settled_both}
 use Rattle.dispersal.specs.Dispersal.{number_for, output_for}
+use Rattle.packet.specs.Calls.{check_for}
 use Rattle.receiver.specs.declared.Receiver.{Receiver}
 use Rattle.receiver.specs.Receiver.{buffer_for}
 use Rattle.host.specs.declared.Received.{Received}
 use Rattle.host.specs.Received.{received_for, unheard}
+
+-- `keshgurvat_packet_check`: an input is p and the packet
+pub packet_check : Settles (λ (i : ℕ × List ℕ) (r : ℕ). r ≡ check_for i.0 i.1)
+packet_check = settled (λ i. check_for i.0 i.1)
 
 -- `keshgurvat_receiver_fresh` is handed nothing
 pub receiver_fresh : Settles (λ (i : Unit {0}) (r : Receiver). r ≡ unheard)

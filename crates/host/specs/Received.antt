@@ -3,8 +3,7 @@ use Rattle.std.specs.Prelude.{ℕ, ◌≡◌, true, false, List, [], ◌∷◌, 
 use Rattle.laws.specs.Pick.{pick}
 use Rattle.laws.specs.Said.{Said}
 use Rattle.receiver.specs.declared.Receiver.{Receiver}
-use Rattle.receiver.specs.declared.Answer.{Answer}
-use Rattle.receiver.specs.declared.Answer.TheVariants.{Nothing, Delivered, Refused}
+use Rattle.receiver.specs.Answer.{Answer, Nothing, Delivered, Refused}
 use Rattle.receiver.specs.Receiver.{fresh}
 use Rattle.receiver.specs.Dropped.{told_for}
 use Rattle.host.specs.declared.Received.{Received}

@@ -8,13 +8,14 @@ ghost use Rattle.dispersal.specs.Dispersal.{number_for, output_for};
 ghost use Rattle.packet.specs.Calls.{check_for};
 ghost use Rattle.refusal.specs.Refusal.{number_in};
 ghost use Rattle.hand.specs.Settings.{settings_for};
+ghost use Rattle.receiver.specs.Answer.{answer_of};
 ghost use Rattle.receiver.specs.Receiver.{buffer_for};
 ghost use Rattle.receiver.specs.Dropped.{report_for};
 ghost use Rattle.sender.specs.Rings.{fresh_rings, ring_load_for, ring_store_for, ring_frame_for, ring_frame_out};
 ghost use Rattle.host.specs.Received.{unheard, received_by, received_for, said};
 
 use hand::Settings;
-use receiver::{Answer, Receiver};
+use receiver::{Receiver, Told};
 use refusal::Refusal;
 use sender::{Framed, Loaded, Sender};
 
@@ -36,24 +37,14 @@ pub extern "C" fn keshgurvat_disperse(input: &[u8], output: &mut [u8]) -> u32
     ensures answer { result ≡ number_for input.now output.old }
     ensures memory { output.new ≡ output_for input.now output.old }
 {
-    number(dispersal::disperse(input, output))
-}
-
-// The number of an answer.
-fn number(answer: Result<(), Refusal>) -> u32
-    ensures { result ≡ number_in answer }
-{
-    match answer {
-        Ok(()) => 0,
-        Err(why) => why.number(),
-    }
+    refusal::number(dispersal::disperse(input, output))
 }
 
 #[unsafe(no_mangle)]
 pub extern "C" fn keshgurvat_packet_check(p: usize, packet: &[u8]) -> u32
     ensures { result ≡ check_for p packet.now }
 {
-    packet::check(p, packet)
+    refusal::number(packet::check(p, packet))
 }
 
 #[unsafe(no_mangle)]
@@ -105,34 +96,31 @@ pub extern "C" fn keshgurvat_receiver_fresh() -> Receiver
 }
 
 // The answer in numbers, since an enum cannot cross to C.
-fn in_numbers(answer: Answer, dropped: usize, next: Receiver) -> Received
-    ensures { result ≡ received_by answer dropped next }
-{
-    match answer {
-        Answer::Nothing => Received {
+impl From<Told> for Received {
+    ghost from_gives = { λ told received. received ≡ received_by (answer_of told.answer) told.dropped told.next };
+
+    fn from(told: Told) -> Received {
+        let none = Received {
             number: 0,
             delivered: false,
             id: 0,
             length: 0,
-            dropped: dropped,
-            next: next,
-        },
-        Answer::Delivered { id, length } => Received {
-            number: 0,
-            delivered: true,
-            id: id,
-            length: length,
-            dropped: dropped,
-            next: next,
-        },
-        Answer::Refused { number } => Received {
-            number: number,
-            delivered: false,
-            id: 0,
-            length: 0,
-            dropped: dropped,
-            next: next,
-        },
+            dropped: told.dropped,
+            next: told.next,
+        };
+        match told.answer {
+            Ok(None) => none,
+            Ok(Some(unit)) => Received {
+                delivered: true,
+                id: unit.id,
+                length: unit.length,
+                ..none
+            },
+            Err(why) => Received {
+                number: why.number(),
+                ..none
+            },
+        }
     }
 }
 
@@ -147,9 +135,6 @@ pub extern "C" fn keshgurvat_receive(
     ensures values { said result ≡ report_for p state packet.now (length buffer.old) }
     ensures memory { buffer.new ≡ buffer_for p state packet.now buffer.old }
 {
-    let t = state.step(p, buffer, packet);
-    let answer = t.answer;
-    let dropped = t.dropped;
-    let next = t.next;
-    in_numbers(answer, dropped, next)
+    let told = state.step(p, buffer, packet);
+    Received::from(told)
 }

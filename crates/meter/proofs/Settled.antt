@@ -1,5 +1,5 @@
--- The promises of the exports for MDI packets and of dispersal settle them; the others have the library's own promises, whose theorems stand beside the library's
--- calls. Assumes nothing.
+-- The promises of the exports for MDI packets, of dispersal and of the packet check settle them; the others have the library's own promises,
+-- whose theorems stand beside the library's calls. Assumes nothing.
 use Prim.Native.Nat.{ℕ}
 use mathlib.Core.List.{List}
 use mathlib.Core.Path.{◌≡◌}
@@ -9,8 +9,13 @@ use Rattle.laws.proofs.Settle.{settled, settled_both}
 use Rattle.dispersal.specs.Dispersal.{number_for, output_for}
 use Rattle.mdi_write.specs.Answers.{out_for}
 use Rattle.mdi_write.specs.Packet.{four}
+use Rattle.packet.specs.Calls.{check_for}
 use Rattle.meter.specs.declared.Seen.{Seen}
 use Rattle.meter.specs.Seen.{seen_in, record_for, wrote_for}
+
+-- an input is p and the packet
+pub check : Settles (λ (i : ℕ × List ℕ) (r : ℕ). r ≡ check_for i.0 i.1)
+check = settled (λ i. check_for i.0 i.1)
 
 -- an input is the packet and the place of the data byte that is told
 pub mdi_read : Settles (λ (i : List ℕ × ℕ) (r : Seen). r ≡ seen_in i.0 i.1)

@@ -43,24 +43,14 @@ pub extern "C" fn meter_disperse(input: &[u8], output: &mut [u8]) -> u32
     ensures value { result ≡ number_for input.now output.old }
     ensures output_after { output.new ≡ output_for input.now output.old }
 {
-    number(dispersal::disperse(input, output))
-}
-
-// The number of an answer.
-fn number(answer: Result<(), Refusal>) -> u32
-    ensures { result ≡ number_in answer }
-{
-    match answer {
-        Ok(()) => 0,
-        Err(why) => why.number(),
-    }
+    refusal::number(dispersal::disperse(input, output))
 }
 
 #[unsafe(no_mangle)]
 pub extern "C" fn meter_check(p: usize, bytes: &[u8]) -> u32
     ensures { result ≡ check_for p bytes.now }
 {
-    packet::check(p, bytes)
+    refusal::number(packet::check(p, bytes))
 }
 
 fn byte_at(s: &[u8], at: usize) -> u8

@@ -2,7 +2,7 @@
 #![tactic(auto)]
 
 use night_book::Book;
-use receiver::{Answer, Receiver};
+use receiver::Receiver;
 
 // A packet of the stream is lost on the way, the packets being counted from 1.
 fn is_lost(book: &Book) -> bool {
@@ -20,10 +20,12 @@ fn hear(
     let told = receiver.step(book.plan.p, buffer, packet);
     *receiver = told.next;
     book.drop_bytes(told.dropped);
-    if let Answer::Delivered { id, length } = told.answer {
-        let id = usize::from(id % 4);
+    if let Ok(Some(delivered)) = told.answer {
+        let id = usize::from(delivered.id % 4);
         let at = id * 4096;
-        let unit = buffer.get(at..at.wrapping_add(length)).unwrap_or_default();
+        let unit = buffer
+            .get(at..at.wrapping_add(delivered.length))
+            .unwrap_or_default();
         book.deliver(rt, id, unit);
     }
 }

@@ -1,18 +1,23 @@
 -- A packet that is not refused: what the checks have established, and what `read` and `useful` answer then. Assumes nothing.
 use mathlib.Core.Path.{◌≡◌, refl, sym, ap, ◌∙◌}
 use mathlib.Core.List.{List, []}
-use mathlib.Core.Bool.{Bool, true, false}
+use mathlib.Core.Bool.{Bool, true, false, true≢false}
 use Prim.Native.Nat.{ℕ, ◌+◌, ◌-◌, ◌%◌, ◌≤◌}
 use native.Mathlib.Omega.{arith}
 use borrow.Author.Tests.{eq-eqb, ne_eqb, eqb-true, eqb-false, ltb-false, not-false}
 use lib.Dec.{eqb, ltb, lit<}
 use lib.ListN.{length, get_or, take, drop, length-drop}
 use lib.Seq.{length-take-le}
+use Rattle.std.specs.Prelude.{Result, Ok, Err}
+use Rattle.std.specs.Result.{is_err}
 use Rattle.laws.specs.Pick.{pick}
 use Rattle.laws.proofs.Refuse.{free}
+use Rattle.refusal.specs.declared.Refusal.{Refusal}
+use Rattle.refusal.specs.Refusal.{number_in}
+use Rattle.refusal.proofs.Numbers.{number_ne0}
 use Rattle.packet.specs.Packet.{padded, field_at, body_of, decode}
 use Rattle.packet.specs.Calls.{wrong_word, wrong_count, tests_for, check_for, no_head, head_for, read_for, useful_for}
-use Rattle.packet.specs.declared.Head.{Head}
+use Rattle.packet.specs.Head.{Head}
 
 -- what the checks establish
 pub record Passed (p : ℕ) (s : List ℕ) : Type 0 where
@@ -34,6 +39,15 @@ passed p s e =
       word = t.1.1.1.0;
       count = λ h. ltb-false (p - 1) (get_or s 1 0) (sym (ap (λ (b : Bool). pick b (ltb (p - 1) (get_or s 1 0)) false) h) ∙ t.1.1.1.1.0);
     }
+
+-- a check's answer by its test, which answers b
+pub with_err : {A : Type 0} (x : Result A Refusal) (b : Bool) → b ≡ is_err x → b ≡ true → number_in x ≡ 0 → ⊥
+with_err (Ok a) b e t = absurd (true≢false (sym t ∙ e))
+with_err (Err r) b e t = number_ne0 r
+
+pub with_ok : {A : Type 0} (x : Result A Refusal) (b : Bool) (n : ℕ) → number_in x ≡ n → b ≡ is_err x → b ≡ false → 0 ≡ n
+with_ok (Ok a) b n q e t = q
+with_ok (Err r) b n q e t = absurd (true≢false (sym e ∙ t))
 
 module _ (p : ℕ) (s : List ℕ) (number : ℕ) (e : number ≡ check_for p s) where
   pub read_refused : (number ≡ 0 → ⊥) → no_head number ≡ read_for p s

@@ -8,6 +8,7 @@ use borrow.Author.Tests.{eq-eqb, ne_eqb, lt-ltb, le-ltb, le-leb, eqb-false, ltb-
 use lib.Dec.{ltb, lit<}
 use lib.ListN.{length, take, drop, set, replicate, length-append, length-replicate}
 use lib.Seq.{take_at}
+use mir.Val.{bool_byte as from_bool}
 use Rattle.laws.specs.Pick.{pick}
 use Rattle.laws.specs.Refuse.{refused_with}
 use Rattle.laws.specs.Written.{written}
@@ -18,10 +19,15 @@ use Rattle.crc.specs.Crc.{crc_of}
 use Rattle.fields.specs.Numbers.{put_at}
 use Rattle.moves.specs.Moves.{placed}
 use Rattle.moves.proofs.Turns.{placed_is}
-use Rattle.packet.specs.Packet.{packet_of, head_of, data_of, plain_of, sealed, encode}
+use Rattle.packet.specs.Packet.{packet_of, flag, head_of, data_of, plain_of, sealed, encode}
 use Rattle.packet.specs.Calls.{write_tests, write_number_for, write_for, out_for}
 use Rattle.moves.specs.declared.Wrote.{Wrote}
 use Rattle.packet.proofs.Checks.{from_start}
+
+-- a flag as a number
+pub flag_is : (b : Bool) → (from_bool b ≡ flag b) × (flag b ≤ 1)
+flag_is true = (refl, omega arith)
+flag_is false = (refl, omega arith)
 
 pub data_length : (p : ℕ) (d : List ℕ) → length d ≤ p → length (data_of p d) ≡ p
 unfolding data_of

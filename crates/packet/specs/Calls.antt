@@ -1,12 +1,15 @@
 -- What the calls of this crate answer (01, "Packets, queues and receiver" and "Numbers given back"). Assumes nothing.
-use Rattle.std.specs.Prelude.{ℕ, ◌+◌, ◌-◌, List, [], ◌∷◌, Bool, false, not, ltb, eqb, length, get_or, take}
+use Rattle.std.specs.Prelude.{ℕ, ◌+◌, ◌-◌, List, [], ◌∷◌, Bool, false, not, ltb, eqb, length, get_or, take, Result, Ok, Err}
 use Rattle.laws.specs.Pick.{pick}
 use Rattle.laws.specs.Big.{number_at}
 use Rattle.laws.specs.Refuse.{Test, test, refused_with}
 use Rattle.laws.specs.Written.{written}
+use Rattle.refusal.specs.declared.Refusal.{Refusal}
+use Rattle.refusal.specs.Refusal.{number_of}
 use Rattle.crc.specs.Crc.{crc_of}
 use Rattle.packet.specs.Packet.{Packet, padded, decode, encode}
-use Rattle.packet.specs.declared.Head.{Head}
+use Rattle.packet.specs.declared.Head as said
+use Rattle.packet.specs.Head.{Head}
 use Rattle.moves.specs.declared.Wrote.{Wrote}
 use Rattle.moves.specs.Wrote.{wrote_of}
 
@@ -29,6 +32,12 @@ check_for p s = refused_with (tests_for p s)
 
 abbrev pub no_head : ℕ → Head
 no_head number = record { number = number; first = false; last = false; id = 0; padded = false; index = 0; length = 0 }
+
+-- what `read` answers, with the number
+abbrev pub head_in : Result said.Head Refusal → Head
+head_in (Ok h) =
+    record { number = 0; first = h.first; last = h.last; id = h.id; padded = h.padded; index = h.index; length = h.length }
+head_in (Err r) = no_head (number_of r)
 
 -- what the packet says, in the answer's form
 unfoldable pub head_for : ℕ → List ℕ → Head

@@ -1,3 +1,4 @@
 pub mod Packet
+pub mod Head
 pub mod Calls
 pub mod RoundTrip

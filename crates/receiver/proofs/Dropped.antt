@@ -1,9 +1,9 @@
 -- The bytes that a packet drops are those of E5's sentence (02), and so are those that the code counts, by the way taken. Assumes nothing.
-use Prim.Native.Nat.{ℕ, ◌+◌, ◌≤◌}
+use Prim.Native.Nat.{ℕ, ◌+◌, ◌≤◌, ◌<◌}
 use mathlib.Core.Path.{◌≡◌, refl, sym, ap, ◌∙◌}
-use mathlib.Core.Bool.{Bool, true, false, not, ◌&&◌, ◌||◌, true≢false}
+use mathlib.Core.Bool.{Bool, true, false, not, ◌&&◌, true≢false}
 use native.Mathlib.Omega.{arith}
-use borrow.Author.Tests.{le-leb}
+use borrow.Author.Tests.{le-leb, lt-leb}
 use lib.Dec.{leb, eqb}
 use Rattle.laws.specs.Pick.{pick}
 use Rattle.receiver.specs.declared.Link.{Link}
@@ -51,54 +51,44 @@ sentence l i false t n h =
     (falls z false l.begun l.heard (eqb i l.index) v l.len n (null_first false t n) (λ e. absurd (true≢false (sym e))))
 
 -- ---- by the way taken
--- E5's sentence by its tests; o: a unit is open, h: a packet was heard, e: the index is the next, z: null, f: the first flag, v: it fits
-abbrev falling : Bool → Bool → Bool → Bool → Bool → Bool → ℕ → ℕ → ℕ
-falling o h e z f v m n = pick (not o) 0 (pick (h && not e) m (pick z 0 (pick f m (pick (not v) (m + n) 0))))
-
-by_either : (o h e z f v : Bool) (m n : ℕ) → not o ≡ false → not (o && pick h e true) || (f && not z) ≡ true → m ≡ falling o h e z f v m n
-by_either false h e z f v m n a b = absurd (true≢false a)
-by_either true true false z f v m n a b = refl
-by_either true true true false true v m n a b = refl
-by_either true true true true true v m n a b = absurd (true≢false (sym b))
-by_either true true true z false v m n a b = absurd (true≢false (sym b))
-by_either true false e false true v m n a b = refl
-by_either true false e true true v m n a b = absurd (true≢false (sym b))
-by_either true false e z false v m n a b = absurd (true≢false (sym b))
-
--- neither by its index nor by its first flag
-by_rest : (o h e z f v : Bool) (m n : ℕ) → not o ≡ false → not (o && pick h e true) || (f && not z) ≡ false → pick (z || v) 0 (m + n) ≡ falling o h e z f v m n
-by_rest false h e z f v m n a b = absurd (true≢false a)
-by_rest true true false z f v m n a b = absurd (true≢false b)
-by_rest true true true true f v m n a b = refl
-by_rest true true true false true v m n a b = absurd (true≢false b)
-by_rest true true true false false true m n a b = refl
-by_rest true true true false false false m n a b = refl
-by_rest true false e true f v m n a b = refl
-by_rest true false e false true v m n a b = absurd (true≢false b)
-by_rest true false e false false true m n a b = refl
-by_rest true false e false false false m n a b = refl
+-- of an open unit; h: a packet was heard, e: the index is the next
+gap_is : (o h e : Bool) → not o ≡ false → h && not e ≡ not (o && pick h e true)
+gap_is false h e o = absurd (true≢false o)
+gap_is true true e o = refl
+gap_is true false e o = refl
 
 module _ (l : Link) (i : ℕ) (f t : Bool) (n : ℕ) (h : n ≤ 255) where
   pub drops_none : not l.begun ≡ true → 0 ≡ dropped_bytes l i f t n
   unfolding drops_by
   drops_none a = rw (sentence l i f t n h) (simp a)
 
-  module _ (o : not l.begun ≡ false) (z : Bool) (ez : z ≡ null_of f t n) (m : ℕ) (em : m ≡ l.len) (k : Bool) (ek : k ≡ kept l i) where
-    pub drops_either : not k || (f && not z) ≡ true → m ≡ dropped_bytes l i f t n
-    unfolding drops_by kept
-    drops_either a =
-        rw (sentence l i f t n h)
-        (em ∙ by_either l.begun l.heard (eqb i l.index) (null_of f t n) f (leb (l.len + n) 4096) l.len n o (rw (← ek, ← ez) a))
+  module _ (o : not l.begun ≡ false) (k : Bool) (ek : k ≡ kept l i) (m : ℕ) (em : m ≡ l.len) where
+    gap : l.heard && not (eqb i l.index) ≡ not k
+    unfolding kept
+    gap = gap_is l.begun l.heard (eqb i l.index) o ∙ ap not (sym ek)
 
-    module _ (a : not k || (f && not z) ≡ false) where
-      rest : pick (z || leb (m + n) 4096) 0 (m + n) ≡ dropped_bytes l i f t n
-      unfolding drops_by kept
-      rest =
-          rw (sentence l i f t n h, ez, em)
-          (by_rest l.begun l.heard (eqb i l.index) (null_of f t n) f (leb (l.len + n) 4096) l.len n o (rw (← ek, ← ez) a))
+    pub drops_gap : not k ≡ true → m ≡ dropped_bytes l i f t n
+    unfolding drops_by
+    drops_gap a = rw (sentence l i f t n h) (simp (o, gap, a, em))
 
-      pub drops_not : z || leb (m + n) 4096 ≡ true → 0 ≡ dropped_bytes l i f t n
-      drops_not b = sym (ap (λ (x : Bool). pick x 0 (m + n)) b) ∙ rest
+    module _ (a : not k ≡ false) (z : Bool) (ez : z ≡ null_of f t n) where
+      pub drops_null : z ≡ true → 0 ≡ dropped_bytes l i f t n
+      unfolding drops_by
+      drops_null b = rw (sentence l i f t n h) (simp (o, gap, a, ← ez, b))
 
-      pub drops_over : z || leb (m + n) 4096 ≡ false → m + n ≡ dropped_bytes l i f t n
-      drops_over b = sym (ap (λ (x : Bool). pick x 0 (m + n)) b) ∙ rest
+      module _ (b : z ≡ false) where
+        some : null_of f t n ≡ false
+        some = sym ez ∙ b
+
+        pub drops_first : f ≡ true → m ≡ dropped_bytes l i f t n
+        unfolding drops_by
+        drops_first c = rw (sentence l i f t n h) (simp (o, gap, a, some) (simp (c, em)))
+
+        module _ (c : f ≡ false) where
+          pub drops_fits : m + n ≤ 4096 → 0 ≡ dropped_bytes l i f t n
+          unfolding drops_by
+          drops_fits d = rw (sentence l i f t n h) (simp (o, gap, a, some) (simp (c, ← em, le-leb (m + n) 4096 d)))
+
+          pub drops_over : 4096 < m + n → m + n ≡ dropped_bytes l i f t n
+          unfolding drops_by
+          drops_over d = rw (sentence l i f t n h) (simp (o, gap, a, some) (simp (c, ← em, lt-leb (m + n) 4096 d)))

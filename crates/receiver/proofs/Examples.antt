@@ -9,7 +9,7 @@ use Rattle.packet.specs.Packet.{padded, body_of, decode}
 use Rattle.packet.specs.Calls.{wrong_word, wrong_count}
 use Rattle.receiver.specs.declared.Link.{Link}
 use Rattle.receiver.specs.declared.Receiver.{Receiver}
-use Rattle.receiver.specs.declared.Answer.TheVariants.{Nothing, Delivered}
+use Rattle.receiver.specs.Answer.{Nothing, Delivered}
 use Rattle.receiver.specs.Link.{kept, null_of, base_of, joins, adds, completes, delivered, added, dropped, skipped, fate_of, link_with, link_after, broken_link, no_link}
 use Rattle.receiver.specs.Receiver.{Stepped, fresh, broken, answer_by, answer_in, taken_in, step_tests, step_number, step_for}
 use Rattle.receiver.specs.Bytes.{open_of, delivered_by, dropped_by, skipped_by, gone_of, dropped_bytes, skipped_bytes}

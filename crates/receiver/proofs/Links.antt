@@ -5,7 +5,7 @@ use mathlib.Core.Bool.{Bool, true, false, not, ◌&&◌, ◌||◌}
 use borrow.Author.Tests.{leb-true}
 use lib.Dec.{eqb, leb}
 use Rattle.laws.specs.Pick.{pick}
-use Rattle.laws.proofs.Flags.{and_l, and_r}
+use Rattle.laws.proofs.Flags.{and_r}
 use Rattle.receiver.specs.declared.Link.{Link}
 use Rattle.receiver.specs.Link.{kept, null_of, base_of, joins, adds, link_with, link_after}
 
@@ -44,9 +44,9 @@ module _ (l : Link) (i : ℕ) (f t : Bool) (n : ℕ) where
     after_null k h ek er = let x : null_of f t n ≡ true = sym ez ∙ h in rw (x, ← ek) er
 
     module _ (a : Bool) (hz : z ≡ false) (ea : a ≡ adds l i f t n) where
-      pub after_more : (b : ℕ) → a && not t ≡ true → b ≡ base_of l f → r ≡ link_with i true (b + n) → r ≡ link_after l i f t n
+      pub after_more : (b : ℕ) → a ≡ true → not t ≡ true → b ≡ base_of l f → r ≡ link_with i true (b + n) → r ≡ link_after l i f t n
       unfolding link_after
-      after_more b h eb er = let x : null_of f t n ≡ false = sym ez ∙ hz in rw (x, ← ea, h, ← eb) er
+      after_more b h k eb er = let x : null_of f t n ≡ false = sym ez ∙ hz in rw (x, ← ea, h, k, ← eb) er
 
       pub after_shut : a && not t ≡ false → r ≡ link_with i false 0 → r ≡ link_after l i f t n
       unfolding link_after link_with
@@ -57,5 +57,5 @@ module _ (l : Link) (i : ℕ) (f t : Bool) (n : ℕ) where
   unfolding adds
   adds_fit e = leb-true (base_of l f + n) 4096 (and_r (joins l i f t n) (leb (base_of l f + n) 4096) e)
 
-  pub more_fits : (a : Bool) (b : ℕ) → a ≡ adds l i f t n → a && not t ≡ true → b ≡ base_of l f → b + n ≤ 4096
-  more_fits a b ea h eb = rw eb (adds_fit (sym ea ∙ and_l a (not t) h))
+  pub more_fits : (a : Bool) (b : ℕ) → a ≡ adds l i f t n → a ≡ true → b ≡ base_of l f → b + n ≤ 4096
+  more_fits a b ea h eb = rw eb (adds_fit (sym ea ∙ h))

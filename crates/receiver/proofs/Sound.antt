@@ -14,7 +14,7 @@ use Rattle.packet.specs.Packet.{Packet, decode}
 use Rattle.packet.specs.Calls.{wrong_word, wrong_count}
 use Rattle.receiver.specs.declared.Link.{Link}
 use Rattle.receiver.specs.declared.Receiver.{Receiver}
-use Rattle.receiver.specs.declared.Answer.TheVariants.{Refused}
+use Rattle.receiver.specs.Answer.{Refused}
 use Rattle.receiver.specs.Link.{kept, null_of, base_of, adds, link_with, link_after, broken_link, no_link}
 use Rattle.receiver.specs.Receiver.{link_of, link_in, fresh, broken, taken_in, step_tests, step_number, step_for}
 use Rattle.receiver.specs.Run.{Input, after_all}

@@ -2,32 +2,37 @@
 use Prim.Native.Nat.{ℕ, ◌+◌, ◌-◌, ◌*◌, ◌≤◌, ◌<◌}
 use mathlib.Core.Path.{◌≡◌, refl, sym, ap, ap₂, ◌∙◌}
 use mathlib.Core.List.{List, []}
-use mathlib.Core.Bool.{Bool, true, false, not, ◌&&◌, ◌||◌}
+use mathlib.Core.Bool.{Bool, true, false, ◌&&◌, ◌||◌}
 use native.Mathlib.Omega.{arith}
-use borrow.Author.Tests.{eq-eqb, ne_eqb, eqb-true, not-false}
-use lib.Dec.{ltb, eqb, lit<}
+use borrow.Author.Tests.{eq-eqb, ne_eqb, lt-ltb, le-ltb, eqb-true, not-false}
+use lib.Dec.{eqb, lit<}
+use Rattle.std.specs.Prelude.{Result, Ok, Err, IfOk}
+use Rattle.refusal.specs.declared.Refusal.{Refusal}
+use Rattle.refusal.specs.Refusal.{number_in}
 use lib.ListN.{length, get_or, set, take, drop}
+use Rattle.std.specs.Bool.{then_some}
 use Rattle.laws.specs.Pick.{pick}
 use Rattle.laws.specs.Said.{Said}
 use Rattle.laws.specs.Written.{written}
 use Rattle.laws.proofs.Refuse.{free}
 use Rattle.moves.specs.Moves.{placed}
 use Rattle.moves.proofs.Turns.{placed_is}
-use Rattle.packet.specs.Packet.{Packet, padded, body_of, decode}
-use Rattle.packet.specs.Calls.{wrong_word, wrong_count, tests_for, check_for, no_head, head_for, read_for}
-use Rattle.packet.specs.declared.Head.{Head}
+use Rattle.packet.specs.Packet.{Packet, packet_of, padded, body_of, decode}
+use Rattle.packet.specs.Calls.{tests_for, check_for, no_head, head_in, head_for, read_for}
+use Rattle.packet.specs.Head.{Head}
+use Rattle.packet.specs.declared.Head as said
 use Rattle.packet.proofs.Reading.{passed, body_padded, body_full}
 use Rattle.receiver.specs.declared.Link.{Link}
 use Rattle.receiver.specs.declared.Receiver.{Receiver}
-use Rattle.receiver.specs.declared.Told.{Told}
-use Rattle.receiver.specs.declared.Heard.{Heard}
-use Rattle.receiver.specs.declared.Answer.{Answer}
-use Rattle.receiver.specs.declared.Answer.TheVariants.{Nothing, Delivered, Refused}
+use Rattle.receiver.specs.declared.Told as given
+use Rattle.receiver.specs.declared.Heard as given_in
+use Rattle.receiver.specs.declared.Delivered as unit
+use Rattle.receiver.specs.Answer.{Nothing, Delivered, Refused, Told, Heard, answer_of, told_of, heard_of}
 use Rattle.receiver.specs.Link.{base_of, joins, adds, completes, Fate, delivered, added, dropped, skipped, fate_of, link_after, broken_link}
 use Rattle.receiver.specs.Bytes.{dropped_bytes}
 use Rattle.receiver.specs.Receiver.{link_of, broken, fate_in, base_in, answer_by, answer_in, taken_in, buffer_in, step_tests, step_number, step_for, buffer_for, told, values_by, said_for}
 use Rattle.receiver.specs.Dropped.{dropped_in, dropped_for, told_in, told_for, heard_for, and_dropped, reported, report_for}
-use Rattle.receiver.specs.Private.{number_with, says_with, Checked}
+use Rattle.receiver.specs.Private.{says_with, Checked}
 use Rattle.receiver.proofs.Links.{adds_fit}
 
 -- ---- the number
@@ -36,36 +41,28 @@ pub four_are : (r : Receiver) (a b c d : Bool) → a ≡ broken_link (link_of r 
 unfolding broken
 four_are r a b c d ea eb ec ed = rw (ea, eb, ec, ed)
 
-module _ (p : ℕ) (r : Receiver) (room checked : ℕ) where
-  pub no_13 : eqb p 0 || ltb 255 p ≡ true → 13 ≡ number_with p r room checked
-  unfolding number_with
-  no_13 h = simp h
-
-  module _ (hp : eqb p 0 || ltb 255 p ≡ false) (b : Bool) (eb : b ≡ broken r) where
-    pub no_17 : b ≡ true → 17 ≡ number_with p r room checked
-    unfolding number_with
-    no_17 h = simp (hp, ← eb, h)
-
-    pub no_1 : b ≡ false → (room ≡ 16384 → ⊥) → 1 ≡ number_with p r room checked
-    unfolding number_with
-    no_1 h k = simp (hp, ← eb, h, ne_eqb room 16384 k)
-
-    pub no_rest : b ≡ false → room ≡ 16384 → checked ≡ number_with p r room checked
-    unfolding number_with
-    no_rest h k = simp (hp, ← eb, h, eq-eqb room 16384 k)
-
--- the tests in the order of the call, and the packet's own behind those of the call
-tries : (a b k d e w v : Bool)
-    → ◌≡◌ {A = ℕ} (pick a 13 (pick b 13 (pick k 17 (pick d 1 (pick e 1 (pick w 16 (pick v 16 0)))))))
-    (pick (a || b) 13 (pick k 17 (pick d 1 (pick a 13 (pick b 13 (pick e 1 (pick w 16 (pick v 16 0))))))))
-tries true b k d e w v = refl
-tries false true k d e w v = refl
-tries false false k d e w v = refl
-
+-- the tests in the order of the call, by the way taken
 module _ (p : ℕ) (r : Receiver) (s : List ℕ) (room : ℕ) where
-  pub number_is : step_number p r s room ≡ number_with p r room (check_for p s)
-  unfolding step_number step_tests number_with check_for tests_for
-  number_is = tries (eqb p 0) (ltb 255 p) (broken r) (not (eqb room 16384)) (not (eqb (length s) (p + 3))) (wrong_word p s) (wrong_count p s)
+  pub no_p : p ≡ 0 → 13 ≡ step_number p r s room
+  unfolding step_number step_tests
+  no_p h = simp (eq-eqb p 0 h)
+
+  pub over_p : (p ≡ 0 → ⊥) → 255 < p → 13 ≡ step_number p r s room
+  unfolding step_number step_tests
+  over_p h l = simp (ne_eqb p 0 h, lt-ltb 255 p l)
+
+  module _ (low : p ≡ 0 → ⊥) (high : p ≤ 255) (b : Bool) (eb : b ≡ broken r) where
+    pub bad_record : b ≡ true → 17 ≡ step_number p r s room
+    unfolding step_number step_tests
+    bad_record h = simp (ne_eqb p 0 low, le-ltb 255 p high, ← eb, h)
+
+    pub bad_buffer : b ≡ false → (room ≡ 16384 → ⊥) → 1 ≡ step_number p r s room
+    unfolding step_number step_tests
+    bad_buffer h k = simp (ne_eqb p 0 low, le-ltb 255 p high, ← eb, h, ne_eqb room 16384 k)
+
+    pub as_checked : b ≡ false → room ≡ 16384 → check_for p s ≡ step_number p r s room
+    unfolding step_number step_tests check_for tests_for
+    as_checked h k = simp (ne_eqb p 0 low, le-ltb 255 p high, ← eb, h, eq-eqb room 16384 k)
 
   -- what acceptance says
   pub record Accepted : Type 0 where
@@ -98,6 +95,15 @@ head_number p s = head_picks (check_for p s) (head_for p s) refl
 pub head_is : (p : ℕ) (s : List ℕ) → check_for p s ≡ 0 → read_for p s ≡ head_for p s
 unfolding read_for
 head_is p s e = simp e
+
+-- the same of the answer
+pub read_number : (p : ℕ) (s : List ℕ) (x : Result said.Head Refusal) → head_in x ≡ read_for p s → number_in x ≡ check_for p s
+read_number p s (Ok h) e = ap (λ (a : Head). a.number) e ∙ head_number p s
+read_number p s (Err n) e = ap (λ (a : Head). a.number) e ∙ head_number p s
+
+pub read_head : (p : ℕ) (s : List ℕ) (x : Result said.Head Refusal) → head_in x ≡ read_for p s → IfOk x (λ h. head_in (Ok h) ≡ read_for p s)
+read_head p s (Ok h) e = e
+read_head p s (Err n) e = tt
 
 -- ---- where the useful bytes stand
 pub record Part (p : ℕ) (s : List ℕ) (from : ℕ) : Type 0 where
@@ -150,32 +156,55 @@ put_by : (ad : Bool) (buffer body : List ℕ) (at : ℕ) → (ad ≡ true → at
 put_by true buffer body at h = placed_is buffer at body (h refl)
 put_by false buffer body at h = refl
 
-module _ (r : Receiver) (h : Head) (body buffer : List ℕ) (base : ℕ) (ad : Bool) (ok : Checked h (length body) (length buffer))
-    (eb : base ≡ base_of (link_of r h.id) h.first) (ea : ad ≡ adds (link_of r h.id) h.index h.first h.last (length body)) where
+-- a unit that is complete, as the code has it
+pub unit_is : (c : Bool) (d : unit.Delivered) → answer_of (Ok (then_some c d)) ≡ pick c (Delivered d.id d.length) Nothing
+unit_is true d = refl
+unit_is false d = refl
+
+module _ (r : Receiver) (h : said.Head) (body buffer : List ℕ) (base : ℕ) (ad : Bool) (ok : Checked h (length body) (length buffer)) (id : ℕ)
+    (ei : id ≡ h.id) (eb : base ≡ base_of (link_of r id) h.first) (ea : ad ≡ adds (link_of r id) h.index h.first h.last h.length) where
+  base_law : base ≡ base_of (link_of r h.id) h.first
+  base_law = eb ∙ ap (λ (j : ℕ). base_of (link_of r j) h.first) ei
+
+  adds_law : ad ≡ adds (link_of r h.id) h.index h.first h.last (length body)
+  adds_law = ea ∙ ap₂ (λ (j n : ℕ). adds (link_of r j) h.index h.first h.last n) ei ok.size
+
   put_in : ad ≡ true → h.id * 4096 + base + length body ≤ length buffer
   put_in t =
-      let f = adds_fit (link_of r h.id) h.index h.first h.last (length body) (sym ea ∙ t) in
+      let f = adds_fit (link_of r h.id) h.index h.first h.last (length body) (sym adds_law ∙ t) in
       let i = ok.id_in in
       let w = ok.whole in
-      omega arith
+      omega (arith, base_law)
 
-  pub taken_is : (k : Link) (a : Answer) (d : ℕ) (out : List ℕ) → out ≡ pick ad (placed buffer (h.id * 4096 + base) body) buffer
-      → k ≡ link_after (link_of r h.id) h.index h.first h.last (length body) → a ≡ pick (ad && h.last) (Delivered h.id (base + length body)) Nothing
-      → d ≡ dropped_bytes (link_of r h.id) h.index h.first h.last (length body)
-      → (◌≡◌ {A = Told} (record { answer = a; dropped = d; next = record { link = set r.link h.id k } }) (told_in r (says_with h body)))
-      × (out ≡ buffer_in r (says_with h body) buffer)
-  unfolding told_in dropped_in taken_in answer_in buffer_in
-  taken_is k a d out eo ek en ed = (
-    rw (
-      answer_is (link_of r h.id) h.index h.first h.last (length body) h.id (base_of (link_of r h.id) h.first + length body),
-      ← ea,
-      ← eb,
-      en,
-      ek,
-      ed,
-    ),
-    eo ∙ rw (← ea, ← eb) (put_by ad buffer body (h.id * 4096 + base) put_in),
-  )
+  pub taken_is : (k : Link) (c : Bool) (d : ℕ) → k ≡ link_after (link_of r id) h.index h.first h.last h.length → c ≡ ad && h.last
+      → d ≡ dropped_bytes (link_of r id) h.index h.first h.last h.length
+      → ◌≡◌ {A = Told}
+      (record {
+        answer = answer_of (Ok (then_some c (record { id = h.id; length = base + h.length })));
+        dropped = d;
+        next = record { link = set r.link id k };
+      })
+      (told_in r (says_with h body))
+  unfolding told_in dropped_in taken_in answer_in
+  taken_is k c d ek ec en =
+      rw (
+        answer_is (link_of r h.id) h.index h.first h.last (length body) h.id (base_of (link_of r h.id) h.first + length body),
+        ← adds_law,
+        ← base_law,
+        unit_is c (record { id = h.id; length = base + h.length }),
+        ec,
+        ek,
+        en,
+        ei,
+        ok.size,
+      )
+
+  pub buffer_is : (out : List ℕ) → out ≡ pick ad (placed buffer (id * 4096 + base) body) buffer → out ≡ buffer_in r (says_with h body) buffer
+  unfolding buffer_in
+  buffer_is out eo =
+      eo
+      ∙ ap (λ (j : ℕ). pick ad (placed buffer (j * 4096 + base) body) buffer) ei
+      ∙ rw (← adds_law, ← base_law) (put_by ad buffer body (h.id * 4096 + base) put_in)
 
 -- ---- the values
 told_by : (f : Fate) (id m : ℕ) → told (answer_by f id m) ≡ record { number = 0; place = 0; values = values_by f id m }
@@ -205,40 +234,32 @@ unfolding told_for reported report_for
 report_is p r s room = ap (λ (a : Said). and_dropped a (dropped_for p r s room)) (said_is p r s room)
 
 -- what the outer call gives back of it
-abbrev pub heard_of : Told → Heard
-heard_of t = record { answer = t.answer; dropped = t.dropped }
-
-pub heard_is : (p : ℕ) (r : Receiver) (s : List ℕ) (room : ℕ) (t : Told) → t ≡ told_for p r s room → heard_of t ≡ heard_for p r s room
+pub heard_is : (p : ℕ) (r : Receiver) (s : List ℕ) (room : ℕ) (t : given.Told) → told_of t ≡ told_for p r s room
+    → heard_of (record { answer = t.answer; dropped = t.dropped }) ≡ heard_for p r s room
 unfolding told_for heard_for
-heard_is p r s room t e = ap heard_of e
+heard_is p r s room t e = ap (λ (x : Told). record { answer = x.answer; dropped = x.dropped }) e
 
 -- and with the record behind the loan it is the step's answer again
-abbrev pub told_of : Heard → Receiver → Told
-told_of a u = record { answer = a.answer; dropped = a.dropped; next = u }
-
-pub told_is : (p : ℕ) (r : Receiver) (s : List ℕ) (room : ℕ) (a : Heard) (u : Receiver) → a ≡ heard_for p r s room → u ≡ (told_for p r s room).next
-    → told_of a u ≡ told_for p r s room
+pub told_is : (p : ℕ) (r : Receiver) (s : List ℕ) (room : ℕ) (a : given_in.Heard) (u : Receiver) → heard_of a ≡ heard_for p r s room
+    → u ≡ (told_for p r s room).next → told_of (record { answer = a.answer; dropped = a.dropped; next = u }) ≡ told_for p r s room
 unfolding told_for heard_for
-told_is p r s room a u ea eu = ap₂ told_of ea eu
+told_is p r s room a u ea eu = ap₂ (λ (x : Heard) (y : Receiver). record { answer = x.answer; dropped = x.dropped; next = y }) ea eu
 
 -- ---- the call
-module _ (p : ℕ) (r : Receiver) (s buffer : List ℕ) (h : Head) (eh : h ≡ read_for p s) (n : ℕ) (en : n ≡ number_with p r (length buffer) h.number) where
-  step_number_law : n ≡ step_number p r s (length buffer)
-  step_number_law = en ∙ ap (number_with p r (length buffer)) (ap (λ (x : Head). x.number) eh ∙ head_number p s) ∙ sym (number_is p r s (length buffer))
-
-  pub step_refused : (n ≡ 0 → ⊥)
+module _ (p : ℕ) (r : Receiver) (s buffer : List ℕ) where
+  pub step_refused : (n : ℕ) → n ≡ step_number p r s (length buffer) → (n ≡ 0 → ⊥)
       → (◌≡◌ {A = Told} (record { answer = Refused n; dropped = 0; next = r }) (told_for p r s (length buffer)))
       × ((reported (Refused n) 0 ≡ report_for p r s (length buffer)) × (buffer ≡ buffer_for p r s buffer))
   unfolding told_for step_for dropped_for buffer_for
-  step_refused z =
-      let e : ◌≡◌ {A = Told} (record { answer = Refused n; dropped = 0; next = r }) (told_for p r s (length buffer)) = simp (← step_number_law, ne_eqb n 0 z) in
-      (e, (ap (λ (x : Told). reported x.answer x.dropped) e ∙ report_is p r s (length buffer), simp (← step_number_law, ne_eqb n 0 z)))
+  step_refused n en z =
+      let e : ◌≡◌ {A = Told} (record { answer = Refused n; dropped = 0; next = r }) (told_for p r s (length buffer)) = simp (← en, ne_eqb n 0 z) in
+      (e, (ap (λ (x : Told). reported x.answer x.dropped) e ∙ report_is p r s (length buffer), simp (← en, ne_eqb n 0 z)))
 
-  module _ (z : n ≡ 0) where
+  module _ (h : said.Head) (eh : head_in (Ok h) ≡ read_for p s) (z : 0 ≡ step_number p r s (length buffer)) where
     accepted : Accepted p r s (length buffer)
-    accepted = accepted_of_law p r s (length buffer) (sym step_number_law ∙ z)
+    accepted = accepted_of_law p r s (length buffer) (sym z)
 
-    head_fine : h ≡ head_for p s
+    head_fine : head_in (Ok h) ≡ head_for p s
     head_fine = eh ∙ head_is p s accepted.checked
 
     length_is : h.length ≡ length (body_of p s)
@@ -250,8 +271,12 @@ module _ (p : ℕ) (r : Receiver) (s buffer : List ℕ) (h : Head) (eh : h ≡ r
       unfolding head_for decode
       part = rw ef (part_by p s accepted.checked h.padded (ap (λ (x : Head). x.padded) head_fine))
 
-      pub step_sum : h.length ≤ 255
-      step_sum = rw length_is part.most
+      pub step_sum : from + h.length ≤ 257
+      step_sum = let m = part.most in let k = low h.padded in omega (arith, ef, length_is)
+        where
+          low : (b : Bool) → pick b 2 1 ≤ 2
+          low true = omega arith
+          low false = omega arith
 
       pub step_inside : from + h.length ≤ length s
       step_inside = rw length_is part.inside
@@ -261,27 +286,28 @@ module _ (p : ℕ) (r : Receiver) (s buffer : List ℕ) (h : Head) (eh : h ≡ r
 
       pub step_ready : Checked h (length (take (from + h.length - from) (drop from s))) (length buffer)
       unfolding head_for decode
-      step_ready = rw body_is (record { id_in = id_low; index_in = index_low; most = part.most; whole = accepted.whole })
+      step_ready = rw body_is (record { id_in = id_low; index_in = index_low; most = part.most; size = length_is; whole = accepted.whole })
         where
           id_low : h.id < 4
-          id_low = rw head_fine (omega arith)
+          id_low = rw (ap (λ (x : Head). x.id) head_fine) (omega arith)
 
           index_low : h.index < 8
-          index_low = rw head_fine (omega arith)
+          index_low = rw (ap (λ (x : Head). x.index) head_fine) (omega arith)
 
       says : says_with h (take (from + h.length - from) (drop from s)) ≡ decode p s
       unfolding head_for decode
-      says = rw (body_is, head_fine)
+      says = rw body_is (ap (λ (x : Head). packet_of x.first x.last x.id x.index (body_of p s)) head_fine)
 
-      pub step_done : (t : Told) (out : List ℕ) → t ≡ told_in r (says_with h (take (from + h.length - from) (drop from s)))
+      pub step_done : (t : given.Told) (out : List ℕ) → told_of t ≡ told_in r (says_with h (take (from + h.length - from) (drop from s)))
           → out ≡ buffer_in r (says_with h (take (from + h.length - from) (drop from s))) buffer
-          → (t ≡ told_for p r s (length buffer)) × ((reported t.answer t.dropped ≡ report_for p r s (length buffer)) × (out ≡ buffer_for p r s buffer))
+          → (told_of t ≡ told_for p r s (length buffer))
+          × ((reported (answer_of t.answer) t.dropped ≡ report_for p r s (length buffer)) × (out ≡ buffer_for p r s buffer))
       unfolding told_in told_for step_for dropped_for buffer_for
       step_done t out et eo =
-          let e : t ≡ told_for p r s (length buffer) = simp (← step_number_law, z) (et ∙ ap (told_in r) says) in (
+          let e : told_of t ≡ told_for p r s (length buffer) = simp (← z) (et ∙ ap (told_in r) says) in (
             e,
             (
               ap (λ (x : Told). reported x.answer x.dropped) e ∙ report_is p r s (length buffer),
-              simp (← step_number_law, z) (eo ∙ ap (λ (x : Packet). buffer_in r x buffer) says),
+              simp (← z) (eo ∙ ap (λ (x : Packet). buffer_in r x buffer) says),
             ),
           )

@@ -6,9 +6,7 @@ use Rattle.laws.specs.Said.{Said}
 use Rattle.packet.specs.Packet.{Packet, decode}
 use Rattle.receiver.specs.declared.Link.{Link}
 use Rattle.receiver.specs.declared.Receiver.{Receiver}
-use Rattle.receiver.specs.declared.Answer.{Answer}
-use Rattle.receiver.specs.declared.Told.{Told}
-use Rattle.receiver.specs.declared.Heard.{Heard}
+use Rattle.receiver.specs.Answer.{Answer, Told, Heard}
 use Rattle.receiver.specs.Link.{null_of}
 use Rattle.receiver.specs.Bytes.{dropped_bytes}
 use Rattle.receiver.specs.Receiver.{Stepped, link_of, taken_in, step_number, step_for, told, said_for}

@@ -1,4 +1,5 @@
 pub mod Link
+pub mod Answer
 pub mod Receiver
 pub mod Line
 pub mod Bytes

@@ -9,8 +9,7 @@ use Rattle.packet.specs.Packet.{Packet, decode}
 use Rattle.packet.specs.Calls.{wrong_word, wrong_count}
 use Rattle.receiver.specs.declared.Link.{Link}
 use Rattle.receiver.specs.declared.Receiver.{Receiver}
-use Rattle.receiver.specs.declared.Answer.{Answer}
-use Rattle.receiver.specs.declared.Answer.TheVariants.{Nothing, Delivered, Refused}
+use Rattle.receiver.specs.Answer.{Answer, Nothing, Delivered, Refused}
 use Rattle.receiver.specs.Link.{base_of, adds, Fate, delivered, added, dropped, skipped, fate_of, link_after, broken_link, no_link}
 
 -- what 01 has a step give back: the answer, and the record after the call. E5 of 02 puts a number beside it (Dropped.antt)

@@ -2,6 +2,7 @@
 #![tactic(auto)]
 
 ghost use Rattle.std.specs.Prelude.{◌≡◌};
+ghost use Rattle.refusal.specs.Refusal.{number_in};
 
 // A case a line of 01's table, with its number.
 #[derive(Clone, Copy, PartialEq, Eq)]
@@ -48,6 +49,16 @@ impl Refusal {
         ensures { result ≡ number_of self }
     {
         self as u32
+    }
+}
+
+// 01's number of an answer, for callers in C.
+pub fn number(answer: Result<(), Refusal>) -> u32
+    ensures { result ≡ number_in answer }
+{
+    match answer {
+        Ok(()) => 0,
+        Err(why) => why.number(),
     }
 }
 

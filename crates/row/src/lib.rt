@@ -63,12 +63,12 @@ fn write_from(
     ensures { dst.new ≡ out_for p (packet_of first last id index (take n (turned at ring.now))) dst.old }
 {
     if n <= ring.len() - at {
-        packet::write(p, first, last, id, index, &ring[at..at + n], dst);
+        let _ = packet::write(p, first, last, id, index, &ring[at..at + n], dst);
         return;
     }
     let mut body = [0u8; 255];
     ring::copy_out(ring, at, n, &mut body);
-    packet::write(p, first, last, id, index, &body[0..n], dst);
+    let _ = packet::write(p, first, last, id, index, &body[0..n], dst);
 }
 
 // The bytes left of the first unit; 0 where there is none, whatever stands behind the count.

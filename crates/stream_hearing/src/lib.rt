@@ -3,7 +3,8 @@
 
 use cases::case;
 use cases::case::Taken;
-use receiver::{Answer, Receiver, Told};
+use receiver::{Delivered, Receiver, Told};
+use refusal::Refusal;
 use stream_sending::Acted;
 use stream_values::Run;
 
@@ -30,16 +31,16 @@ fn nothing(number: u32) -> Heard {
     }
 }
 
-fn values_of(a: Answer) -> Heard {
-    match a {
-        Answer::Nothing => nothing(0),
-        Answer::Delivered { id, length } => Heard {
+fn values_of(answer: Result<Option<Delivered>, Refusal>) -> Heard {
+    match answer {
+        Ok(None) => nothing(0),
+        Ok(Some(unit)) => Heard {
             number: 0,
             given: true,
-            id,
-            length,
+            id: unit.id,
+            length: unit.length,
         },
-        Answer::Refused { number } => nothing(number),
+        Err(why) => nothing(why.number()),
     }
 }
 

@@ -1,23 +1,28 @@
 -- `packet::read` meets its contract. Assumes nothing.
 use native.Mathlib.Omega.{arith}
+use mathlib.Core.Path.{refl}
+use Rattle.std.proofs.lemmas.Result.{err_from_is_err_and}
+use Rattle.refusal.proofs.Numbers.{number_ne0}
 use Rattle.packet.proofs.Reading.{is_passed, read_refused, read_is, body_padded, body_full}
 use Rattle.packet.proofs.read.Goals as goal
 
-pub returns-then-number-ne0 : goal.returns-then-number-ne0
-returns-then-number-ne0 c = read_refused _ _ _ c.check-number.ensures c.if-number-ne0.true
+pub returns-in_err-check : goal.returns-in_err-check
+returns-in_err-check c =
+    let p = err_from_is_err_and c.from_residual.result c.from_residual.ensures.1 in
+    rw (p.1, p.2) (read_refused _ _ _ c.in_err-check.ensures (number_ne0 _))
 
 pub bounds-bytes-0 : goal.bounds-bytes-0
-bounds-bytes-0 c = let k = is_passed _ _ _ c.check-number.ensures c.if-number-ne0.false in omega (arith, k.whole)
+bounds-bytes-0 c = let k = is_passed _ _ _ c.in_ok-check.ensures refl in omega (arith, k.whole)
 
 pub bounds-bytes-1 : goal.bounds-bytes-1
-bounds-bytes-1 c = let k = is_passed _ _ _ c.check-number.ensures c.if-number-ne0.false in omega (arith, k.whole)
+bounds-bytes-1 c = let k = is_passed _ _ _ c.in_ok-check.ensures refl in omega (arith, k.whole)
 
-pub returns-then-short : goal.returns-then-short
-returns-then-short c =
-    let e = c.check-number.ensures in
-    read_is _ _ _ e c.if-number-ne0.false _ c.is_padded-short.ensures _ (body_padded _ _ _ e c.if-number-ne0.false _ c.is_padded-short.ensures c.if-short.true _ c.wide.ensures.0).0
+pub returns-then-padded : goal.returns-then-padded
+returns-then-padded c =
+    let e = c.in_ok-check.ensures in
+    read_is _ _ _ e refl _ c.is_padded-padded.ensures _ (body_padded _ _ _ e refl _ c.is_padded-padded.ensures c.if-padded.true _ c.from.ensures).0
 
-pub returns-else-short : goal.returns-else-short
-returns-else-short c =
-    let e = c.check-number.ensures in
-    read_is _ _ _ e c.if-number-ne0.false _ c.is_padded-short.ensures _ (body_full _ _ _ e c.if-number-ne0.false _ c.is_padded-short.ensures c.if-short.false).0
+pub returns-else-padded : goal.returns-else-padded
+returns-else-padded c =
+    let e = c.in_ok-check.ensures in
+    read_is _ _ _ e refl _ c.is_padded-padded.ensures _ (body_full _ _ _ e refl _ c.is_padded-padded.ensures c.if-padded.false).0
