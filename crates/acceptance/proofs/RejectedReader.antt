@@ -12,7 +12,7 @@ use Rattle.fac.specs.Channel as fast
 use Rattle.sdc.specs.Block as block
 use Rattle.record.specs.declared.Record.{Record}
 use Rattle.record.specs.declared.Time.TheVariants.{Absent}
-use Rattle.mdi.specs.declared.Answer.{Answer}
+use Rattle.mdi.specs.Reading.{Answer}
 use Rattle.mdi.specs.Reading.{read_for}
 use Rattle.mdi_write.specs.Packet.{Streams, four, packet_of}
 use Rattle.mdi_write.specs.Answers as writing

@@ -6,7 +6,7 @@ use Rattle.demand.specs.Bytes.{split, of_id}
 use Rattle.dispersal.specs.Dispersal as dispersal
 use Rattle.hand.specs.Settings.{at}
 use Rattle.hand.specs.declared.Settings.{Settings}
-use Rattle.mdi.specs.declared.Answer.{Answer}
+use Rattle.mdi.specs.Reading.{Answer}
 use Rattle.mdi.specs.Reading.{read_for}
 use Rattle.packet.specs.Packet.{decode}
 use Rattle.receiver.specs.Answer as heard

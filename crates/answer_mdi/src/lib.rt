@@ -57,9 +57,13 @@ fn tell_record(r: Record, said: Said, out: &mut [u8]) -> usize {
 }
 
 fn tell_read(packet: &[u8], out: &mut [u8]) -> usize {
-    let got = mdi::read(packet);
-    let r = got.content;
-    let said = saying::begin(got.number, got.place as u64);
+    let (said, r) = match mdi::read(packet) {
+        Ok(r) => (saying::begin(0, 0), r),
+        Err(refused) => (
+            saying::begin(refused.why.number(), refused.place),
+            record::none(),
+        ),
+    };
     tell_record(r, said, out)
 }
 

@@ -3,22 +3,26 @@ use Prim.Native.Nat.{ℕ, ◌-◌, ◌≤◌, ◌<◌}
 use mathlib.Core.Path.{◌≡◌, refl, sym, ap, ◌∙◌}
 use mathlib.Core.Bool.{Bool, true, false}
 use mathlib.Core.List.{List}
+use Rattle.std.specs.Prelude.{Option, Some, None, Ok, Err}
 use borrow.Author.Tests.{lt-ltb, le-ltb, le-leb, lt-leb, ne_eqb}
 use lib.Dec.{eqb}
 use lib.ListN.{length}
 use Rattle.laws.specs.Pick.{pick}
 use Rattle.laws.specs.Refuse.{refused_with, refused_at}
 use Rattle.items.specs.Items.{Item, cut_of, twice, is_there, place_of}
-use Rattle.repeats.specs.Repeats.{repeat_of, repeat_for}
-use Rattle.repeats.specs.declared.Repeat.{Repeat}
+use Rattle.repeats.specs.Repeats.{Repeat, repeat_in, repeat_of, repeat_for}
 use Rattle.mdi_spots.specs.Table.{missing, bad_length}
 use Rattle.mdi_spots.specs.Spotted.{spots_of, passed_of, absent_at, bad_length_at}
 use Rattle.mdi_spots.specs.declared.Spots.{Spots}
 use Rattle.mdi_spots.specs.declared.Passed.{Passed}
 use Rattle.mdi_spots.proofs.Items.{missing_is, length_is}
 use Rattle.mdi.specs.Conditions.{bad_value, bad_fac, bad_sdc, unserved, bad_description, bad_streams}
-use Rattle.mdi.specs.Refusals.{content_tests, item_tests, nowhere, tests_for, check_for}
-use Rattle.mdi.specs.declared.Verdict.{Verdict}
+use Rattle.refusal.specs.Refusal.{number_of}
+use Rattle.refusal.specs.declared.Refusal.{Refusal}
+use Rattle.refusal.specs.declared.Refusal.TheVariants.{Size, CutOff, Repeated}
+use Rattle.refusal.specs.declared.Refused.{Refused}
+use Rattle.refusal.proofs.Numbers.{number_ne0}
+use Rattle.mdi.specs.Refusals.{content_tests, item_tests, nowhere, tests_for, check_for, verdict_in}
 
 -- ---- 4 to 11
 
@@ -89,54 +93,49 @@ items_place is =
     (same_place (unserved is) _
     (same_place (bad_description is) _ (same_place (bad_streams is) 0 refl)))))))
 
--- a refusal's answer
-abbrev refusal : ℕ → ℕ → Verdict
-refusal number place = record { number = number; place = place; spots = nowhere }
-
 pub spots_of_law : (p : List ℕ) (w : Passed) → w ≡ passed_of (cut_of p) → w.spots ≡ spots_of (cut_of p).items
 unfolding passed_of
 spots_of_law p w e = ap (λ (x : Passed). x.spots) e
 
-module _ (p : List ℕ) (v : Verdict) where
-  pub way_1 : 65528 < length p → v ≡ refusal 1 0 → v ≡ check_for p
+module _ (p : List ℕ) where
+  pub way_1 : 65528 < length p → (r : Refused) → r ≡ record { why = Size; place = 0 } → verdict_in (Err r) ≡ check_for p
   unfolding check_for tests_for
-  way_1 h e = e ∙ rw (lt-ltb 65528 (length p) h) refl
+  way_1 h r e = rw (e, lt-ltb 65528 (length p) h) refl
 
   module _ (h1 : length p ≤ 65528) (w : Passed) (ew : w ≡ passed_of (cut_of p)) where
     f2 : (cut_of p).stop ≡ w.stop
     unfolding passed_of
     f2 = sym (ap (λ (x : Passed). x.stop) ew)
 
-    pub way_2 : 8 ≤ length p - w.stop → v ≡ refusal 2 w.stop → v ≡ check_for p
+    pub way_2 : 8 ≤ length p - w.stop → verdict_in (Err (record { why = CutOff; place = w.stop })) ≡ check_for p
     unfolding check_for tests_for
-    way_2 h e = e ∙ rw (le-ltb 65528 (length p) h1, f2, le-leb 8 (length p - w.stop) h) refl
+    way_2 h = rw (le-ltb 65528 (length p) h1, f2, le-leb 8 (length p - w.stop) h) refl
 
-    module _ (h2 : length p - w.stop < 8) (r : Repeat) (er : r ≡ repeat_for p) where
-      f3 : r ≡ repeat_of (twice (cut_of p).items)
+    module _ (h2 : length p - w.stop < 8) where
+      same : (r : Option ℕ) → repeat_in r ≡ repeat_for p → repeat_in r ≡ repeat_of (twice (cut_of p).items)
       unfolding repeat_for
-      f3 = er ∙ rw (le-ltb 65528 (length p) h1) refl
+      same r e = e ∙ rw (le-ltb 65528 (length p) h1) refl
 
-      there : is_there (twice (cut_of p).items) ≡ r.found
+      there : (r : Option ℕ) → repeat_in r ≡ repeat_for p → is_there (twice (cut_of p).items) ≡ (repeat_in r).found
       unfolding repeat_of
-      there = sym (ap (λ (x : Repeat). x.found) f3)
+      there r e = sym (ap (λ (x : Repeat). x.found) (same r e))
 
-      at : place_of (twice (cut_of p).items) ≡ r.place
+      at : (r : Option ℕ) → repeat_in r ≡ repeat_for p → place_of (twice (cut_of p).items) ≡ (repeat_in r).place
       unfolding repeat_of
-      at = sym (ap (λ (x : Repeat). x.place) f3)
+      at r e = sym (ap (λ (x : Repeat). x.place) (same r e))
 
-      pub way_3 : r.found ≡ true → v ≡ refusal 3 r.place → v ≡ check_for p
+      pub way_3 : (place : ℕ) → repeat_in (Some place) ≡ repeat_for p → verdict_in (Err (record { why = Repeated; place = place })) ≡ check_for p
       unfolding check_for tests_for
-      way_3 h e = e ∙ rw (le-ltb 65528 (length p) h1, f2, lt-leb 8 (length p - w.stop) h2, there, at, h) refl
+      way_3 place e = rw (le-ltb 65528 (length p) h1, f2, lt-leb 8 (length p - w.stop) h2, there (Some place) e, at (Some place) e) refl
 
-      module _ (h3 : r.found ≡ false) (n : ℕ) (en : n ≡ refused_with (item_tests (cut_of p).items)) where
-        on : check_for p ≡ record { number = n; place = 0; spots = pick (eqb n 0) (spots_of (cut_of p).items) nowhere }
+      module _ (h3 : repeat_in None ≡ repeat_for p) where
+        on : (n : ℕ) → n ≡ refused_with (item_tests (cut_of p).items) → check_for p ≡ record { number = n; place = 0; spots = pick (eqb n 0) (spots_of (cut_of p).items) nowhere }
         unfolding check_for tests_for
-        on = rw (le-ltb 65528 (length p) h1, f2, lt-leb 8 (length p - w.stop) h2, there, h3, items_place (cut_of p).items, ← en) refl
+        on n en = rw (le-ltb 65528 (length p) h1, f2, lt-leb 8 (length p - w.stop) h2, there None h3, items_place (cut_of p).items, ← en) refl
 
-        pub way_on : (n ≡ 0 → ⊥) → v ≡ refusal n 0 → v ≡ check_for p
-        way_on h e = e ∙ sym (on ∙ rw (ne_eqb n 0 h) refl)
+        -- an item's refusal
+        pub way_on : (why : Refusal) → number_of why ≡ refused_with (item_tests (cut_of p).items) → verdict_in (Err (record { why = why; place = 0 })) ≡ check_for p
+        way_on why e = sym (on (number_of why) e ∙ rw (ne_eqb (number_of why) 0 (number_ne0 why)) refl)
 
-pub way_done : (p : List ℕ) → length p ≤ 65528 → (w : Passed) → w ≡ passed_of (cut_of p) → length p - w.stop < 8 → (r : Repeat) → r ≡ repeat_for p → r.found ≡ false
-    → (n : ℕ) → n ≡ refused_with (item_tests (cut_of p).items) → n ≡ 0
-    → ◌≡◌ {A = Verdict} (record { number = 0; place = 0; spots = w.spots }) (check_for p)
-way_done p h1 w ew h2 r er h3 n en z = rw (on p (record { number = 0; place = 0; spots = w.spots }) h1 w ew h2 r er h3 n en, z, spots_of_law p w ew) refl
+        pub way_done : 0 ≡ refused_with (item_tests (cut_of p).items) → verdict_in (Ok w.spots) ≡ check_for p
+        way_done e = rw (on 0 e, spots_of_law p w ew) refl

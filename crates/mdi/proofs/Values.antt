@@ -2,7 +2,7 @@
 use Prim.Native.Nat.{ℕ, zero, suc, ◌+◌, ◌≤◌, ◌<◌}
 use mathlib.Core.Path.{◌≡◌, refl, sym, ap, ap₂, ◌∙◌}
 use mathlib.Core.Bool.{Bool, true, false, ◌&&◌, ◌||◌, not}
-use mathlib.Core.List.{List, [], ◌∷◌}
+use mathlib.Core.List.{List}
 use native.Mathlib.Omega.{arith}
 use lib.Dec.{leb, eqb, lit<}
 use lib.ListN.{length, take}
@@ -23,7 +23,6 @@ use Rattle.std.specs.Result.{result_eq}
 use Rattle.description.specs.Bytes.{said_of, described_by}
 use Rattle.description.specs.WellFormed.{ill_formed}
 use Rattle.description.specs.declared.Description.{Description}
-use Rattle.description.specs.declared.Lengths.{Lengths}
 use Rattle.fac.specs.Channel as fast
 use Rattle.fac.specs.Channel.{fac_of, not_served}
 use Rattle.fac.specs.declared.Fac.{Fac}
@@ -67,11 +66,6 @@ letters_is v b = go (leb (0 + 4) (length v)) refl
 pub protocol_is : (v : List ℕ) (a b c : ℕ) → Bytes v → a ≡ number_at 4 v 0 → b ≡ number_at 4 letters 0 → c ≡ number_at 2 v 4 → (eqb a b && eqb c 0) ≡ protocol v
 unfolding protocol
 protocol_is v a b c h p q r = rw (p, q, r, letters_is v h) refl
-
-pub mode_none : (v : List ℕ) → length v ≡ 0 → true ≡ known_mode v
-unfolding known_mode
-mode_none [] h = refl
-mode_none (x ∷ v) h = absurd (omega arith)
 
 pub time_is : (v : List ℕ) (o : Result Stamp Refusal) → stamped_in o ≡ decoded_for v
     → not (result_eq stamps.eq-value.it refusals.eq-value.it o (Err BadValue)) ≡ on_time v
@@ -150,9 +144,6 @@ module _ (S : List ℕ) where
         let f : b ≡ agrees is (described_by v)
         = k ∙ rw (stream_size 6 (lit< tt), stream_size 7 (lit< tt), stream_size 8 (lit< tt), stream_size 9 (lit< tt), q) refl in
         one (λ w. agrees is (described_by w)) sdci y (spot_of_law is t e 4 (lit< tt) y n) a v b r p f
-
-pub fills_is : (bits : ℕ) (l : Lengths) (n x y : ℕ) → n ≡ bytes_for bits → x ≡ l.a → y ≡ l.b → eqb n (x + y) ≡ eqb (bytes_for bits) (l.a + l.b)
-fills_is bits l n x y p q r = rw (p, q, r) refl
 
 pub agree_is : (t : Spots) (d : Description) (x0 x1 x2 x3 : Spot) (b0 b1 b2 b3 : Bool)
     → x0 ≡ spot_in t 6 → x1 ≡ spot_in t 7 → x2 ≡ spot_in t 8 → x3 ≡ spot_in t 9

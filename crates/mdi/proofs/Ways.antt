@@ -1,11 +1,14 @@
 -- What the calls read out of the spots of a packet is what its items say. Assumes nothing.
 use Prim.Native.Nat.{ℕ, ◌+◌, ◌≤◌, ◌<◌}
 use mathlib.Core.Path.{◌≡◌, refl, sym, ap, ◌∙◌}
-use mathlib.Core.List.{List, [], ◌∷◌}
+use mathlib.Core.List.{List, []}
+use Rattle.std.specs.Prelude.{Option, Ok, Err, slice_get}
+use Rattle.std.specs.Option.{unwrap_or}
+use Rattle.std.proofs.lemmas.Option.{unwrap_or-slice_get}
 use native.Mathlib.Omega.{arith}
-use borrow.Author.Tests.{eq-eqb, ne_eqb, lt-ltb, le-ltb}
+use borrow.Author.Tests.{ne_eqb, lt-ltb, le-ltb}
 use lib.Dec.{lit<}
-use lib.ListN.{length, get_or}
+use lib.ListN.{get_or}
 use Rattle.laws.specs.Big.{number_at}
 use Rattle.laws.specs.Refuse.{refused_with, refused_at}
 use Rattle.clock.specs.Stamps.{decoded_for}
@@ -19,7 +22,6 @@ use Rattle.fac.specs.Channel.{fac_of}
 use Rattle.fac.specs.declared.Fac.{Fac}
 use Rattle.sdc.specs.Block.{sdc_of}
 use Rattle.sdc.specs.declared.Sdc.{Sdc}
-use Rattle.record.specs.Records.{no_record}
 use Rattle.record.specs.declared.Record.{Record}
 use Rattle.record.specs.declared.Time.{Time}
 use Rattle.record.specs.declared.Time.TheVariants.{Absent, Given}
@@ -31,14 +33,15 @@ use Rattle.mdi_spots.specs.Table.{name_of}
 use Rattle.mdi_spots.specs.Spotted.{spots_of, spot_in}
 use Rattle.mdi_spots.proofs.Items.{spot_of_law}
 use Rattle.mdi_spots.specs.declared.Spots.{Spots}
-use Rattle.mdi.specs.Refusals.{tests_for, check_for}
-use Rattle.mdi.specs.declared.Verdict.{Verdict}
-use Rattle.mdi.specs.Reading.{time_of, record_of, read_for, stream_of, stream_for}
-use Rattle.mdi.specs.declared.Answer.{Answer}
+use Rattle.refusal.specs.Refusal.{number_of}
+use Rattle.refusal.specs.declared.Refused.{Refused}
+use Rattle.refusal.proofs.Numbers.{number_ne0}
+use Rattle.mdi.specs.Refusals.{Verdict, verdict_in, tests_for, check_for}
+use Rattle.mdi.specs.Reading.{time_of, record_of, read_in, read_for, stream_of, stream_for}
 
-pub first_none : (v : List ℕ) → length v ≡ 0 → 0 ≡ get_or v 0 0
-first_none [] h = refl
-first_none (x ∷ v) h = absurd (omega arith)
+-- the first byte, as the code reads it
+pub first_or0 : (v : List ℕ) (a b : Option ℕ) (r : ℕ) → a ≡ slice_get v 0 → b ≡ a → r ≡ unwrap_or b 0 → r ≡ get_or v 0 0
+first_or0 v a b r p q e = e ∙ ap (λ (o : Option ℕ). unwrap_or o 0) (q ∙ p) ∙ unwrap_or-slice_get v 0 0
 
 -- ---- the timestamp
 
@@ -83,46 +86,57 @@ record_is S t h x1 x2 x3 x4 x5 y1 y2 y3 y4 y5 a b c d e pa pb pc pd pe count f s
     let ke = shown S robm x5 (spot_of_law (cut_of S).items t h 5 (lit< tt) x5 y5) e pe in
     rw (q1, q2, q3, q4, q5, q6, ka, kb, kc, kd, ke) refl
 
-module _ (p : List ℕ) (v : Verdict) (e : v ≡ check_for p) where
-  number_is : v.number ≡ refused_with (tests_for p)
-  unfolding check_for
-  number_is = ap (λ (x : Verdict). x.number) e
+-- ---- after a check that refuses
 
-  place_is : v.place ≡ refused_at (tests_for p)
+module _ (p : List ℕ) (r : Refused) (e : verdict_in (Err r) ≡ check_for p) where
+  number_no : refused_with (tests_for p) ≡ number_of r.why
   unfolding check_for
-  place_is = ap (λ (x : Verdict). x.place) e
+  number_no = sym (ap (λ (x : Verdict). x.number) e)
 
-  pub read_no : (v.number ≡ 0 → ⊥) → (r : Record) → r ≡ no_record → ◌≡◌ {A = Answer} (record { number = v.number; place = v.place; content = r }) (read_for p)
+  place_no : refused_at (tests_for p) ≡ r.place
+  unfolding check_for
+  place_no = sym (ap (λ (x : Verdict). x.place) e)
+
+  pub read_no : read_in (Err r) ≡ read_for p
   unfolding read_for
-  read_no h r q = rw (q, ← number_is, ← place_is, ne_eqb v.number 0 h) refl
+  read_no = rw (number_no, place_no, ne_eqb (number_of r.why) 0 (number_ne0 r.why)) refl
 
-  pub spots_are : v.number ≡ 0 → v.spots ≡ spots_of (cut_of p).items
-  unfolding check_for
-  spots_are z = ap (λ (x : Verdict). x.spots) e ∙ rw (eq-eqb (refused_with (tests_for p)) 0 (sym number_is ∙ z)) refl
-
-  pub read_yes : v.number ≡ 0 → (r : Record) → r ≡ record_of (cut_of p).items → ◌≡◌ {A = Answer} (record { number = v.number; place = v.place; content = r }) (read_for p)
-  unfolding read_for
-  read_yes z r q = rw (q, ← number_is, ← place_is, eq-eqb v.number 0 z) refl
-
-  -- ---- the streams
-
-  pub stream_no : (n : ℕ) → (v.number ≡ 0 → ⊥) → [] ≡ stream_for p n
+  pub stream_no : (n : ℕ) → [] ≡ stream_for p n
   unfolding stream_for
-  stream_no n h = rw (← number_is, ne_eqb v.number 0 h) refl
+  stream_no n = rw (number_no, ne_eqb (number_of r.why) 0 (number_ne0 r.why)) refl
 
-  module _ (z : v.number ≡ 0) (n : ℕ) where
+-- ---- after one that does not
+
+module _ (p : List ℕ) (t : Spots) (e : verdict_in (Ok t) ≡ check_for p) where
+  number_yes : refused_with (tests_for p) ≡ 0
+  unfolding check_for
+  number_yes = sym (ap (λ (x : Verdict). x.number) e)
+
+  place_yes : refused_at (tests_for p) ≡ 0
+  unfolding check_for
+  place_yes = sym (ap (λ (x : Verdict). x.place) e)
+
+  pub spots_are : t ≡ spots_of (cut_of p).items
+  unfolding check_for
+  spots_are = ap (λ (x : Verdict). x.spots) e ∙ rw number_yes refl
+
+  pub read_yes : (r : Record) → r ≡ record_of (cut_of p).items → read_in (Ok r) ≡ read_for p
+  unfolding read_for
+  read_yes r q = rw (q, number_yes, place_yes) refl
+
+  module _ (n : ℕ) where
     here : stream_for p n ≡ stream_of (cut_of p).items n
     unfolding stream_for
-    here = rw (← number_is, eq-eqb v.number 0 z) refl
+    here = rw number_yes refl
 
     pub stream_over : 3 < n → [] ≡ stream_for p n
     unfolding stream_of
     stream_over h = sym (here ∙ rw (lt-ltb 3 n h) refl)
 
-    pub stream_row : n ≤ 3 → (x : Spot) → x ≡ spot_in v.spots (6 + n) → (w : List ℕ) → w ≡ shown_at p x → w ≡ stream_for p n
+    pub stream_row : n ≤ 3 → (x : Spot) → x ≡ spot_in t (6 + n) → (w : List ℕ) → w ≡ shown_at p x → w ≡ stream_for p n
     unfolding stream_of
     stream_row h x y w q =
-        shown p (name_of (6 + n)) x (spot_of_law (cut_of p).items v.spots (spots_are z) (6 + n) (omega arith) x y) w q ∙ sym (here ∙ rw (le-ltb 3 n h) refl)
+        shown p (name_of (6 + n)) x (spot_of_law (cut_of p).items t spots_are (6 + n) (omega arith) x y) w q ∙ sym (here ∙ rw (le-ltb 3 n h) refl)
 
 pub time_spot : (S : List ℕ) (t : Spots) → t ≡ spots_of (cut_of S).items → (x : Spot) → x ≡ spot_in t 10 → x ≡ spot_of (find tist (cut_of S).items)
 time_spot S t e x q = spot_of_law (cut_of S).items t e 10 (lit< tt) x q

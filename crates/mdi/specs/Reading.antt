@@ -1,5 +1,5 @@
 -- The record of an MDI packet and the bytes of its streams (01, "MDI packet"). Assumes nothing.
-use Rattle.std.specs.Prelude.{ℕ, ◌+◌, List, [], eqb, ltb, get_or}
+use Rattle.std.specs.Prelude.{ℕ, ◌+◌, List, [], Result, Ok, Err, eqb, ltb, get_or}
 use Rattle.laws.specs.Big.{number_at}
 use Rattle.laws.specs.Pick.{pick}
 use Rattle.laws.specs.Refuse.{refused_with, refused_at}
@@ -15,7 +15,9 @@ use Rattle.items.specs.Items.{Item, Found, none, some, cut_of, find, value_of}
 use Rattle.mdi_spots.specs.Names.{dlfc, fac, sdc, sdci, robm, tist}
 use Rattle.mdi_spots.specs.Table.{name_of}
 use Rattle.mdi.specs.Refusals.{tests_for}
-use Rattle.mdi.specs.declared.Answer.{Answer}
+pub use Rattle.mdi.specs.declared.Answer.{Answer}
+use Rattle.refusal.specs.Refusal.{number_of}
+use Rattle.refusal.specs.declared.Refused.{Refused}
 
 -- the timestamp, where the item is there
 unfoldable pub time_of : Found → Time
@@ -33,6 +35,11 @@ record_of is =
       robustness = get_or (value_of (find robm is)) 0 0;
       time = time_of (find tist is);
     }
+
+-- what a reader's answer says
+abbrev pub read_in : Result Record Refused → Answer
+read_in (Ok r) = record { number = 0; place = 0; content = r }
+read_in (Err r) = record { number = number_of r.why; place = r.place; content = no_record }
 
 -- the number and place of the refusal, and the record of a packet that is not refused
 unfoldable pub read_for : List ℕ → Answer

@@ -1,6 +1,6 @@
 -- The refusals of an MDI packet (01, "Numbers given back"), in the order of their numbers, each asked of the whole packet. Assumes
 -- nothing.
-use Rattle.std.specs.Prelude.{ℕ, ◌-◌, List, [], ◌∷◌, ltb, leb, eqb, length}
+use Rattle.std.specs.Prelude.{ℕ, ◌-◌, List, [], ◌∷◌, Result, Ok, Err, ltb, leb, eqb, length}
 use Rattle.laws.specs.Limits.{longest}
 use Rattle.laws.specs.Pick.{pick}
 use Rattle.laws.specs.Refuse.{Test, test, refused_with, refused_at}
@@ -9,7 +9,8 @@ use Rattle.mdi_spots.specs.Spotted.{spots_of}
 use Rattle.mdi_spots.specs.declared.Spots.{Spots}
 use Rattle.mdi_spots.specs.Table.{missing, bad_length}
 use Rattle.mdi.specs.Conditions.{bad_value, bad_fac, bad_sdc, unserved, bad_description, bad_streams}
-use Rattle.mdi.specs.declared.Verdict.{Verdict}
+use Rattle.refusal.specs.Refusal.{number_of}
+use Rattle.refusal.specs.declared.Refused.{Refused}
 
 -- what the FAC, the description and the streams say together
 abbrev pub content_tests : List Item → List Test
@@ -37,6 +38,17 @@ tests_for packet =
 -- where no item is
 abbrev pub nowhere : Spots
 nowhere = spots_of []
+
+-- number 0: the packet is well formed, and its known items stand at these spots; the place is an offset in the packet for 2 and 3, else 0
+pub record Verdict : Type 0 where
+  pub number : ℕ
+  pub place : ℕ
+  pub spots : Spots
+
+-- what a check's answer says
+abbrev pub verdict_in : Result Spots Refused → Verdict
+verdict_in (Ok t) = record { number = 0; place = 0; spots = t }
+verdict_in (Err r) = record { number = number_of r.why; place = r.place; spots = nowhere }
 
 -- the spots of the known items are given with a packet that is not refused
 unfoldable pub check_for : List ℕ → Verdict

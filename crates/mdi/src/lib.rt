@@ -4,41 +4,19 @@
 
 ghost use Rattle.std.specs.Prelude.{◌≡◌, not, eqb, ◌+◌, ◌<◌, get_or};
 ghost use Rattle.laws.specs.Refuse.{refused_with};
+ghost use Rattle.refusal.specs.Refusal.{number_in};
 ghost use Rattle.items.specs.Items.{cut_of, bytes_for, find, spot_of};
 ghost use Rattle.mdi_spots.specs.Spotted.{spots_of, away};
 ghost use Rattle.mdi.specs.Conditions.{protocol, known_mode, on_time, bad_value, bad_fac, bad_sdc, agrees_at};
-ghost use Rattle.mdi.specs.Refusals.{content_tests, item_tests, nowhere, check_for};
+ghost use Rattle.mdi.specs.Refusals.{content_tests, item_tests, check_for, verdict_in};
 ghost use Rattle.mdi_spots.specs.Names.{tist};
-ghost use Rattle.mdi.specs.Reading.{time_of, record_of, read_for, stream_for};
+ghost use Rattle.mdi.specs.Reading.{time_of, record_of, read_for, read_in, stream_for};
 
 use description::{Description, Lengths};
 use items::Spot;
 use mdi_spots::Spots;
 use record::{Record, Time};
-use refusal::Refusal;
-
-// Number 0: the packet is well formed, and its known items stand at these spots. The place is an offset in the packet for 2 and 3, else
-// 0.
-#[derive(Clone, Copy)]
-pub struct Verdict {
-    pub number: u32,
-    pub place: usize,
-    pub spots: Spots,
-}
-
-fn refused(number: u32, place: usize) -> Verdict
-    ensures { result ≡ record { number = number; place = place; spots = nowhere } }
-{
-    let spots = Spots {
-        start: [0usize; 11],
-        bits: [0u32; 11],
-    };
-    Verdict {
-        number,
-        place,
-        spots,
-    }
-}
+use refusal::{Refusal, Refused};
 
 fn is_there(x: Spot) -> bool
     ensures { result ≡ not (away x) }
@@ -56,10 +34,7 @@ fn is_protocol(v: &[u8]) -> bool
 fn is_known_mode(v: &[u8]) -> bool
     ensures { result ≡ known_mode v.now }
 {
-    if v.len() == 0 {
-        return true;
-    }
-    v[0] <= 3
+    v.first().copied().unwrap_or(0) <= 3
 }
 
 fn is_on_time(v: &[u8]) -> bool
@@ -99,17 +74,11 @@ fn bad_sdc(s: &[u8], t: Spots) -> bool
     is_there(x) & !sdc::is_sealed(items::value(s, x))
 }
 
-fn wide(x: u16) -> usize
-    ensures { (result ≡ x) × (result < 65536) }
-{
-    x as usize
-}
-
 // Whether a value of so many bits has as many bytes as both parts of a stream.
 fn fills(bits: u32, l: Lengths) -> bool
     ensures { result ≡ eqb (bytes_for bits) (l.a + l.b) }
 {
-    items::bytes(bits) == wide(l.a) + wide(l.b)
+    items::bytes(bits) == usize::from(l.a) + usize::from(l.b)
 }
 
 // Whether each stream has as many bytes as the description says.
@@ -128,92 +97,71 @@ fn agree(t: Spots, d: Description) -> bool
 }
 
 // 9 to 11: the FAC and the description are taken apart once.
-fn check_contents(s: &[u8], t: Spots) -> u32
+fn check_contents(s: &[u8], t: Spots) -> Result<(), Refusal>
     requires { t ≡ spots_of (cut_of s.now).items }
-    ensures { result ≡ refused_with (content_tests (cut_of s.now).items) }
+    ensures { number_in result ≡ refused_with (content_tests (cut_of s.now).items) }
 {
     let x = mdi_spots::spot(t, mdi_spots::FAC);
     let f = fac::of_value(items::value(s, x));
     if is_there(x) & fac::not_served(f) {
-        return 9;
+        return Err(Refusal::NotServed);
     }
     let y = mdi_spots::spot(t, mdi_spots::SDCI);
     let d = description::of_value(items::value(s, y));
     if is_there(y) & description::ill_formed(d, f.msc) {
-        return 10;
+        return Err(Refusal::IllFormed);
     }
     if is_there(y) & !agree(t, d) {
-        return 11;
+        return Err(Refusal::StreamLength);
     }
-    0
+    Ok(())
 }
 
 // 4 to 11.
-fn check_items(s: &[u8], t: Spots) -> u32
+fn check_items(s: &[u8], t: Spots) -> Result<(), Refusal>
     requires { t ≡ spots_of (cut_of s.now).items }
-    ensures { result ≡ refused_with (item_tests (cut_of s.now).items) }
+    ensures { number_in result ≡ refused_with (item_tests (cut_of s.now).items) }
 {
     if mdi_spots::missing(t) {
-        return 4;
+        return Err(Refusal::Missing);
     }
     if mdi_spots::bad_length(t) {
-        return 5;
+        return Err(Refusal::ItemLength);
     }
     if bad_value(s, t) {
-        return 6;
+        return Err(Refusal::BadValue);
     }
     if bad_fac(s, t) {
-        return 7;
+        return Err(Refusal::FacCrc);
     }
     if bad_sdc(s, t) {
-        return 8;
+        return Err(Refusal::SdcCrc);
     }
     check_contents(s, t)
 }
 
-// The check: the lowest number whose condition holds over the whole packet, and its place.
-fn check(packet: &[u8]) -> Verdict
-    ensures { result ≡ check_for packet.now }
+// The spots of the known items of a well-formed packet. Refused with the lowest number whose condition holds over the whole packet.
+fn check(packet: &[u8]) -> Result<Spots, Refused>
+    ensures { verdict_in result ≡ check_for packet.now }
 {
     if 65528 < packet.len() {
-        return refused(1, 0);
+        return Err(Refused::from(Refusal::Size));
     }
     let seen = mdi_spots::find_all(packet);
     if 8 <= packet.len() - seen.stop {
-        return refused(2, seen.stop);
+        return Err(Refused {
+            why: Refusal::CutOff,
+            place: seen.stop as u64,
+        });
     }
-    let again = repeats::first_again(packet);
-    if again.found {
-        return refused(3, again.place);
+    if let Some(again) = repeats::first_again(packet) {
+        return Err(Refused {
+            why: Refusal::Repeated,
+            place: again as u64,
+        });
     }
-    let spots = seen.spots;
-    let refusal = check_items(packet, spots);
-    if refusal != 0 {
-        return refused(refusal, 0);
-    }
-    Verdict {
-        number: 0,
-        place: 0,
-        spots,
-    }
-}
-
-// Number 0: read. A refused packet gives an empty record. The place is an offset in the packet for 2 and 3, else 0.
-#[derive(Clone, Copy)]
-pub struct Answer {
-    pub number: u32,
-    pub place: usize,
-    pub content: Record,
-}
-
-// The first byte, 0 where there is none.
-fn first(v: &[u8]) -> u8
-    ensures { result ≡ get_or v.now 0 0 }
-{
-    if v.len() == 0 {
-        return 0;
-    }
-    v[0]
+    check_items(packet, seen.spots)?;
+    Ok(seen.spots)
 }
 
 fn time_of(s: &[u8], x: Spot) -> Time
@@ -235,7 +183,10 @@ fn record_of(s: &[u8], t: Spots) -> Record
     let fac = fac::of_value(items::value(s, mdi_spots::spot(t, mdi_spots::FAC)));
     let sdc = sdc::of_value(items::value(s, mdi_spots::spot(t, mdi_spots::SDC)));
     let description = description::of_value(items::value(s, mdi_spots::spot(t, mdi_spots::SDCI)));
-    let robustness = first(items::value(s, mdi_spots::spot(t, mdi_spots::ROBM)));
+    let robustness = items::value(s, mdi_spots::spot(t, mdi_spots::ROBM))
+        .first()
+        .copied()
+        .unwrap_or(0);
     let time = time_of(s, mdi_spots::spot(t, mdi_spots::TIST));
     Record {
         count,
@@ -247,40 +198,52 @@ fn record_of(s: &[u8], t: Spots) -> Record
     }
 }
 
-// The record of a packet. Refused with 1 to 11, the lowest number over the whole packet.
-pub fn read(packet: &[u8]) -> Answer
-    ensures { result ≡ read_for packet.now }
+// What a reader's answer says in 01's terms: number 0 where the packet was read, else the number and place of the refusal and an empty record.
+// Kept: number and value beside one another. tally::count and inspect_text::line take any number, and a narrower type would ask more.
+#[derive(Clone, Copy)]
+pub struct Answer {
+    pub number: u32,
+    pub place: usize,
+    pub content: Record,
+}
+
+impl From<Result<Record, Refused>> for Answer {
+    ghost from_gives = { λ answer told. told ≡ read_in answer };
+
+    fn from(answer: Result<Record, Refused>) -> Answer {
+        match answer {
+            Ok(content) => Answer {
+                number: 0,
+                place: 0,
+                content,
+            },
+            Err(refused) => Answer {
+                number: refused.why.number(),
+                place: refused.place as usize,
+                content: record::none(),
+            },
+        }
+    }
+}
+
+// The record of a packet. Refused with 1 to 11, the lowest number over the whole packet; the place is an offset in the packet for 2 and 3,
+// else 0.
+pub fn read(packet: &[u8]) -> Result<Record, Refused>
+    ensures { read_in result ≡ read_for packet.now }
 {
-    let v = check(packet);
-    let number = v.number;
-    let place = v.place;
-    if number != 0 {
-        let content = record::none();
-        return Answer {
-            number,
-            place,
-            content,
-        };
-    }
-    let content = record_of(packet, v.spots);
-    Answer {
-        number,
-        place,
-        content,
-    }
+    let spots = check(packet)?;
+    Ok(record_of(packet, spots))
 }
 
 // The bytes of stream n, as a part of the packet; empty where `read` refuses it, where it has no such stream, and where n is over 3.
 pub fn stream(packet: &[u8], n: usize) -> &[u8]
     ensures { result.now ≡ stream_for packet.now n }
 {
-    let v = check(packet);
-    let t = v.spots;
-    if v.number != 0 {
+    let Ok(spots) = check(packet) else {
         return &packet[..0];
-    }
+    };
     if 3 < n {
         return &packet[..0];
     }
-    items::value(packet, mdi_spots::spot(t, mdi_spots::STR0 + n))
+    items::value(packet, mdi_spots::spot(spots, mdi_spots::STR0 + n))
 }

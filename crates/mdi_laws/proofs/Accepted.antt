@@ -14,7 +14,7 @@ use Rattle.items.specs.Exact.{rest_of}
 use Rattle.items.proofs.Exact.{exact}
 use Rattle.mdi.specs.Refusals.{tests_for}
 use Rattle.mdi.specs.Reading.{read_for}
-use Rattle.mdi.specs.declared.Answer.{Answer}
+use Rattle.mdi.specs.Reading.{Answer}
 use Rattle.mdi_laws.specs.WellFormed.{WellFormed}
 use Rattle.mdi_laws.specs.NoMatter.{Packs}
 use Rattle.mdi_laws.specs.Accepted.{Made, Holds, Accepted}

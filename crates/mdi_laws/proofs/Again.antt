@@ -28,7 +28,7 @@ use Rattle.mdi_spots.specs.Table.{ill}
 use Rattle.mdi.specs.Conditions.{served, msc_mode, agrees, unserved, bad_description, bad_streams}
 use Rattle.mdi.specs.Refusals.{item_tests, tests_for}
 use Rattle.mdi.specs.Reading.{time_of, record_of, read_for, stream_of, stream_for}
-use Rattle.mdi.specs.declared.Answer.{Answer}
+use Rattle.mdi.specs.Reading.{Answer}
 use Rattle.mdi_write.specs.Packet.{Streams, four, packet_of}
 use Rattle.mdi_write.specs.Answers.{any_long, bad_time, is_too_large, agreed, Fits}
 use Rattle.mdi_laws.specs.Typed.{Typed}

@@ -22,7 +22,7 @@ use Rattle.record.specs.declared.Time.{Time}
 use Rattle.record.specs.declared.Time.TheVariants.{Absent, Given}
 use Rattle.record.specs.Succession.{follows_for, Fitting, OnTime}
 use Rattle.record.proofs.Succession.{succession}
-use Rattle.mdi.specs.declared.Answer.{Answer}
+use Rattle.mdi.specs.Reading.{Answer}
 use Rattle.mdi_write.specs.Packet.{time_bytes, packet_of}
 use Rattle.mdi_write.specs.Answers.{bad_time, is_too_large, write_for, Fits}
 use Rattle.mdi_write.proofs.Values.{few}

@@ -1,8 +1,8 @@
 -- What the exports for MDI packets hand over is what the library gave them. Assumes nothing.
-use Prim.Native.Nat.{ℕ, ◌≤◌}
+use Prim.Native.Nat.{ℕ, zero, suc, ◌≤◌}
 use mathlib.Core.Path.{◌≡◌, refl, sym, ap, ◌∙◌}
 use mathlib.Core.List.{List}
-use lib.ListN.{length, get_or, get_or-eq_default}
+use lib.ListN.{length, get_or, get_or-eq_default, replicate}
 use Rattle.clock.specs.Stamps.{decoded_for}
 use Rattle.clock.specs.Answers.{stamped_in}
 use Rattle.clock.specs.declared.Stamp.{Stamp}
@@ -16,8 +16,10 @@ use Rattle.sdc.specs.Block.{sdc_of}
 use Rattle.sdc.specs.declared.Sdc.{Sdc}
 use Rattle.record.specs.declared.Record.{Record}
 use Rattle.record.specs.declared.Time.TheVariants.{Given}
-use Rattle.mdi.specs.Reading.{read_for}
-use Rattle.mdi.specs.declared.Answer.{Answer}
+use Rattle.mdi.specs.Reading.{read_in, read_for}
+use Rattle.refusal.specs.Refusal.{number_of}
+use Rattle.refusal.specs.declared.Refused.{Refused}
+use Rattle.std.specs.Prelude.{Ok, Err}
 use Rattle.mdi_write.specs.Answers.{write_for, out_for}
 use Rattle.mdi_write.specs.Packet.{Streams}
 use Rattle.moves.specs.declared.Wrote.{Wrote}
@@ -27,10 +29,20 @@ use Rattle.std.specs.Prelude.{Result}
 use Rattle.meter.specs.declared.Seen.{Seen}
 use Rattle.meter.specs.Seen.{seen_in, record_for, wrote_for}
 
-pub seen_is : (p : List ℕ) (at : ℕ) (a : Answer) → a ≡ read_for p → (b : ℕ) → b ≡ get_or a.content.sdc.body at 0
-    → ◌≡◌ {A = Seen} (record { number = a.number; count = a.content.count; service = a.content.fac.service; robustness = a.content.robustness; byte = b }) (seen_in p at)
+zeros : (n k : ℕ) → get_or (replicate {A = ℕ} n 0) k 0 ≡ 0
+zeros zero k = refl
+zeros (suc n) zero = refl
+zeros (suc n) (suc k) = zeros n k
+
+pub seen_read : (p : List ℕ) (at : ℕ) (r : Record) → read_in (Ok r) ≡ read_for p → (b : ℕ) → b ≡ get_or r.sdc.body at 0
+    → ◌≡◌ {A = Seen} (record { number = 0; count = r.count; service = r.fac.service; robustness = r.robustness; byte = b }) (seen_in p at)
 unfolding seen_in
-seen_is p at a e b q = rw (q, e) refl
+seen_read p at r e b q = rw (q, ← e) refl
+
+pub seen_refused : (p : List ℕ) (at : ℕ) (r : Refused) → read_in (Err r) ≡ read_for p → (n : ℕ) → n ≡ number_of r.why
+    → ◌≡◌ {A = Seen} (record { number = n; count = 0; service = 0; robustness = 0; byte = 0 }) (seen_in p at)
+unfolding seen_in
+seen_refused p at r e n q = rw (q, ← e, zeros 1024 at) refl
 
 pub made_is : (count mode : ℕ) (A B C D : List ℕ) (f : Fac) (s : Sdc) (x : Description) (o : Result Stamp Refusal) (t : Stamp)
     → f ≡ fac_of A → s ≡ sdc_of B → x ≡ described_by C → stamped_in o ≡ decoded_for D → t ≡ (stamped_in o).stamp

@@ -66,13 +66,21 @@ fn byte_at(s: &[u8], at: usize) -> u8
 pub extern "C" fn meter_mdi_read(packet: &[u8], at: usize) -> Seen
     ensures { result ≡ seen_in packet.now at }
 {
-    let a = mdi::read(packet);
-    Seen {
-        number: a.number,
-        count: a.content.count,
-        service: a.content.fac.service,
-        robustness: a.content.robustness,
-        byte: byte_at(&a.content.sdc.body, at),
+    match mdi::read(packet) {
+        Ok(record) => Seen {
+            number: 0,
+            count: record.count,
+            service: record.fac.service,
+            robustness: record.robustness,
+            byte: byte_at(&record.sdc.body, at),
+        },
+        Err(refused) => Seen {
+            number: refused.why.number(),
+            count: 0,
+            service: 0,
+            robustness: 0,
+            byte: 0,
+        },
     }
 }
 

@@ -68,3 +68,12 @@ pub struct Refused {
     pub why: Refusal,
     pub place: u64,
 }
+
+// Of every refusal but 2 and 3 the place is 0.
+impl From<Refusal> for Refused {
+    ghost from_gives = { λ why refused. refused ≡ record { why = why; place = 0 } };
+
+    fn from(why: Refusal) -> Refused {
+        Refused { why, place: 0 }
+    }
+}

@@ -18,9 +18,9 @@ use Rattle.items.proofs.Rule.{at_none, at_item, at_fits}
 use Rattle.items.proofs.Names.{same_list, list_same, number_same}
 use Rattle.items.proofs.Passes.{name_number}
 use Rattle.repeats.specs.Tree.{Tree, Member, Stored, Zeros, Looked}
-use Rattle.repeats.specs.Repeats.{repeat_of, repeat_for}
-use Rattle.repeats.specs.declared.Repeat.{Repeat}
-use Rattle.repeats.specs.declared.Sought.{Sought}
+use Rattle.repeats.specs.Repeats.{repeat_in, repeat_of, repeat_for}
+use Rattle.std.specs.Prelude.{Option, Some, None}
+use Rattle.std.specs.Option.{option_flatten}
 
 -- the keys of names; the last that came is the first of the list, and its key the last stored
 abbrev keys_of : List (List ℕ) → List ℕ
@@ -115,21 +115,21 @@ seeing_none S keys kids l z = record {
 }
 
 module _ (S : List ℕ) (bytes : Bytes S) (keys kids : List ℕ) (room n at k : ℕ) (s : Seeing S keys kids room n at) (size : k ≡ size_at S at) where
-  pub seen_all : k ≡ 0 → (r : Sought) → r ≡ record { full = false; first = record { found = false; place = 0 } } → Looked S room r
+  pub seen_all : k ≡ 0 → Looked S room (Some None)
   unfolding repeat_of is_there place_of no_item again
-  seen_all z r q = rw q (
+  seen_all z =
       let e : none ≡ twice (cut_of S).items = sym (ap (λ (c : Cut). again s.came c.items) (at_none S at k size z)) ∙ s.still in
-      record { full = λ f. absurd (true≢false (sym f)); done = λ f. ap repeat_of e })
+      ap repeat_of e
 
   -- no room is left
-  pub seen_full : (k ≡ 0 → ⊥) → n ≡ length keys → (r : Sought) → r ≡ record { full = true; first = record { found = false; place = 0 } } → Looked S room r
-  seen_full some' e r q = rw q (
+  pub seen_full : (k ≡ 0 → ⊥) → n ≡ length keys → Looked S room None
+  seen_full some' e =
       let f = at_fits S at k size some' in
       let a = f.0 in
       let b = f.1 in
       let c = s.few in
       let d = s.keys_long in
-      record { full = λ t. omega arith; done = λ t. absurd (true≢false t) })
+      omega arith
 
   pub nearer : (k ≡ 0 → ⊥) → length S - (at + k) < length S - at
   nearer some' =
@@ -192,9 +192,9 @@ module _ (S : List ℕ) (bytes : Bytes S) (keys kids : List ℕ) (room n at k : 
                 same = sym (get_or-take n keys r.index 0 h) ∙ ap (λ (x : List ℕ). get_or x r.index 0) s.stored ∙ r.same ∙ sym key_is;
               }))
 
-      pub seen_again : b ≡ true → (r : Sought) → r ≡ record { full = false; first = record { found = true; place = at } } → Looked S room r
+      pub seen_again : b ≡ true → Looked S room (Some (Some at))
       unfolding repeat_of is_there place_of item_at
-      seen_again t r q = rw q (record { full = λ f. absurd (true≢false (sym f)); done = λ f. ap repeat_of (next_is true (was_there (did.was t).0)) })
+      seen_again t = ap repeat_of (next_is true (was_there (did.was t).0))
 
       pub seeing_more : b ≡ false → (n ≡ length keys → ⊥) → length keys' ≡ length keys → length kids' ≡ length kids → Seeing S keys' kids' room (n + 1) (at + k)
       seeing_more t free l m =
@@ -229,24 +229,18 @@ zeros (suc n) (suc k) = zeros n k
 
 -- ---- `first_again`
 
-pub repeat_long : (S : List ℕ) → 65528 < length S → ◌≡◌ {A = Repeat} (record { found = false; place = 0 }) (repeat_for S)
+pub repeat_long : (S : List ℕ) → 65528 < length S → repeat_in None ≡ repeat_for S
 unfolding repeat_for repeat_of is_there place_of
 repeat_long S h = rw (lt-ltb 65528 (length S) h) refl
 
-pub repeat_short : (S : List ℕ) (r : Repeat) → length S ≤ 65528 → r ≡ repeat_of (twice (cut_of S).items) → r ≡ repeat_for S
+pub repeat_short : (S : List ℕ) (r : Option ℕ) → length S ≤ 65528 → repeat_in r ≡ repeat_of (twice (cut_of S).items) → repeat_in r ≡ repeat_for S
 unfolding repeat_for
 repeat_short S r h e = rw (le-ltb 65528 (length S) h) e
 
-pub repeat_few : (S : List ℕ) (r : Sought) → length S ≤ 65528 → (r.full ≡ false → r.first ≡ repeat_of (twice (cut_of S).items)) → r.full ≡ false → r.first ≡ repeat_for S
-repeat_few S r h e f = repeat_short S r.first h (e f)
-
 -- 8,192 items have more bytes than a packet
-pub never_full : (S : List ℕ) (r : Sought) → length S ≤ 65528 → Looked S 8192 r → r.first ≡ repeat_of (twice (cut_of S).items)
-never_full S r h k = go r.full refl
-  where
-    go : (b : Bool) → r.full ≡ b → r.first ≡ repeat_of (twice (cut_of S).items)
-    go true e = let f = k.full e in absurd (omega arith)
-    go false e = k.done e
+pub never_full : (S : List ℕ) (r : Option (Option ℕ)) → length S ≤ 65528 → Looked S 8192 r → repeat_in (option_flatten r) ≡ repeat_of (twice (cut_of S).items)
+never_full S None h k = absurd (omega arith)
+never_full S (Some r) h k = k
 
 -- arrays of n and m zeros have room for n names
 pub arrays_fit : (n m : ℕ) → n ≤ 8192 → 2 * n ≤ m

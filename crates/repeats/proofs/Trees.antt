@@ -1,5 +1,5 @@
 -- Laws of the tree. Assumes nothing.
-use Prim.Native.Nat.{ℕ, zero, suc, ◌+◌, ◌*◌, ◌/◌, ◌%◌, ◌≤◌, ◌<◌}
+use Prim.Native.Nat.{ℕ, zero, suc, ◌+◌, ◌*◌, ◌/◌, ◌≤◌, ◌<◌}
 use mathlib.Core.Path.{◌≡◌, refl, sym, ap, ap₂, ◌∙◌, subst}
 use mathlib.Core.Bool.{Bool, true, false}
 use mathlib.Core.List.{List, [], ◌∷◌, ◌++◌}
@@ -10,8 +10,7 @@ use lib.Dec.{T, eqb, eqb→eq}
 use borrow.Author.Tests.{eqb-false}
 use lib.ListN.{length, get_or, take, set}
 use lib.Seq.{get_or-set_same, get_or-set_other, take-suc-set}
-use Rattle.repeats.specs.Tree.{slot_of, Leads, Reach, Tree, Miss, Ends, Stored}
-use Rattle.repeats.specs.declared.Step.{Step}
+use Rattle.repeats.specs.Tree.{slot_of, Leads, Reach, Tree, Miss, Stored}
 
 -- one step more at the end
 snoc : (kids : List ℕ) (k w v w' v' : ℕ) → Leads kids k w v w' v' → (get_or kids (slot_of w' v') 0 ≡ 0 → ⊥)
@@ -76,27 +75,17 @@ module _ (keys kids : List ℕ) (n key w node : ℕ) (t : Tree keys kids n) (on 
           b.1.0 (sym is ∙ z);
     }
 
-pub ends_hit : (keys kids : List ℕ) (n key node : ℕ) → node < n → get_or keys node 0 ≡ key → Ends keys kids n key (record { found = true; at = node })
-ends_hit keys kids n key node h e = record { hit = λ t. (h, e); miss = λ f. absurd (let z : ◌≡◌ {A = ℕ} 0 1 = cc in omega arith) }
-
-pub ends_miss : (keys kids : List ℕ) (n key slot : ℕ) → Miss keys kids n key slot → Ends keys kids n key (record { found = false; at = slot })
-ends_miss keys kids n key slot m = record { hit = λ t. absurd (let z : ◌≡◌ {A = ℕ} 0 1 = cc in omega arith); miss = λ f. m }
-
--- as the code meets it: b is the bit, m the child
+-- as the code meets it: m is the child
 module _ (keys kids : List ℕ) (n key w node : ℕ) (t : Tree keys kids n) (on : On keys kids n key w node) (not-here : get_or keys node 0 ≡ key → ⊥)
-    (b : ℕ) (bit : b ≡ w % 2) (m x : ℕ) (wid : m ≡ x) (is : x ≡ get_or kids (2 * node + b) 0) where
-  m_is : m ≡ get_or kids (slot_of w node) 0
-  m_is = wid ∙ is ∙ ap (λ (y : ℕ). get_or kids (2 * node + y) 0) bit
-
+    (m : ℕ) (m_is : m ≡ get_or kids (slot_of w node) 0) where
   pub go_on : (m ≡ 0 → ⊥) → On keys kids n key (w / 2) m
   go_on h = on_next keys kids n key w node t on not-here m m_is h
 
   pub go_down : (m ≡ 0 → ⊥) → (node < m) × (m < n)
   go_down h = child keys kids n key w node t on not-here m m_is h
 
-  pub go_out : m ≡ 0 → Ends keys kids n key (record { found = false; at = 2 * node + b })
-  go_out z = ends_miss keys kids n key (2 * node + b)
-      (subst (λ (y : ℕ). Miss keys kids n key (2 * node + y)) (sym bit) (on_miss keys kids n key w node t on not-here m m_is z))
+  pub go_out : m ≡ 0 → Miss keys kids n key (slot_of w node)
+  go_out z = on_miss keys kids n key w node t on not-here m m_is z
 
 -- ---- what `insert` leaves
 
@@ -123,9 +112,9 @@ stored_first keys kids n key h t z = record {
     first : (j : ℕ) → j ≡ 0 → Reach kids (get_or (set keys 0 key) j 0) j
     first j e = record { steps = 0; rest = get_or (set keys 0 key) j 0; leads = (refl, sym e) }
 
-pub stored_was : (keys kids : List ℕ) (n key : ℕ) (r : Step) → Ends keys kids n key r → r.found ≡ true → Stored keys kids n key true keys kids
-stored_was keys kids n key r e f = record {
-  was = λ t. (record { index = r.at; low = (e.hit f).0; same = (e.hit f).1 }, refl, refl);
+pub stored_was : (keys kids : List ℕ) (n key node : ℕ) → (node < n) × (get_or keys node 0 ≡ key) → Stored keys kids n key true keys kids
+stored_was keys kids n key node e = record {
+  was = λ t. (record { index = node; low = e.0; same = e.1 }, refl, refl);
   new = λ t. absurd (let z : ◌≡◌ {A = ℕ} 0 1 = cc in omega arith);
 }
 

@@ -1,10 +1,8 @@
 -- Invariants of the private functions; no promise cites them. A digital search tree in two arrays: node k has the key keys k and the children kids (2 k) and kids (2 k + 1), 0 where there is none. The
 -- way of a key takes its bits from the low end. Assumes nothing.
-use Rattle.std.specs.Prelude.{ℕ, zero, suc, ◌+◌, ◌*◌, ◌/◌, ◌%◌, ◌≤◌, ◌<◌, ◌≡◌, Bool, true, false, List, [], ◌∷◌, ◌++◌, ◌⊎◌, length, get_or, take}
+use Rattle.std.specs.Prelude.{ℕ, zero, suc, ◌+◌, ◌*◌, ◌/◌, ◌%◌, ◌≤◌, ◌<◌, ◌≡◌, Bool, true, false, List, [], ◌∷◌, ◌++◌, ◌⊎◌, Option, Some, None, Result, Ok, Err, length, get_or, take}
 use Rattle.items.specs.Items.{cut_of, twice}
-use Rattle.repeats.specs.Repeats.{repeat_of}
-use Rattle.repeats.specs.declared.Step.{Step}
-use Rattle.repeats.specs.declared.Sought.{Sought}
+use Rattle.repeats.specs.Repeats.{repeat_in, repeat_of}
 
 abbrev pub slot_of : ℕ → ℕ → ℕ
 slot_of w v = 2 * v + w % 2
@@ -39,9 +37,10 @@ pub record Miss (keys kids : List ℕ) (n key slot : ℕ) : Type 0 where
   pub empty : get_or kids slot 0 ≡ 0
   pub other : Member keys n key → ⊥
 
-pub record Ends (keys kids : List ℕ) (n key : ℕ) (r : Step) : Type 0 where
-  pub hit : r.found ≡ true → (r.at < n) × (get_or keys r.at 0 ≡ key)
-  pub miss : r.found ≡ false → Miss keys kids n key r.at
+-- where a key's way ends: at its node, or at the free place
+abbrev pub Ends : List ℕ → List ℕ → ℕ → ℕ → Result ℕ ℕ → Type 0
+Ends keys kids n key (Ok node) = (node < n) × (get_or keys node 0 ≡ key)
+Ends keys kids n key (Err slot) = Miss keys kids n key slot
 
 -- what `insert` does: the key was there and all stays; or it was not, it stands at n, and the tree has n + 1 keys
 pub record Stored (keys kids : List ℕ) (n key : ℕ) (r : Bool) (keys' kids' : List ℕ) : Type 0 where
@@ -53,6 +52,6 @@ abbrev pub Zeros : List ℕ → Type 0
 Zeros s = (k : ℕ) → get_or s k 0 ≡ 0
 
 -- what `store` does with room for so many names: it has the answer, unless there are more items than that, of 8 bytes at least each
-pub record Looked (S : List ℕ) (room : ℕ) (r : Sought) : Type 0 where
-  pub full : r.full ≡ true → 8 * room + 8 ≤ length S
-  pub done : r.full ≡ false → r.first ≡ repeat_of (twice (cut_of S).items)
+abbrev pub Looked : List ℕ → ℕ → Option (Option ℕ) → Type 0
+Looked S room None = 8 * room + 8 ≤ length S
+Looked S room (Some r) = repeat_in r ≡ repeat_of (twice (cut_of S).items)

@@ -135,7 +135,7 @@ fn saw(s: Seen, at: u64, packet: &[u8], broken: &mut [u8; 1024], line: &mut [u8;
     ensures between { Puts broken.old 0 (break_of s (read_for packet.now)) broken.new result.broken }
     ensures text { Puts line.old 0 (line_of s at (read_for packet.now)) line.new result.line }
 {
-    let a = mdi::read(packet);
+    let a = Answer::from(mdi::read(packet));
     let n = inspect_text::line(s.tally.packets.wrapping_add(1), at, a, line);
     let b = put_break(s, a, broken);
     Told {

@@ -27,10 +27,8 @@ fn put_numbers(ns: &[u64; 12], out: &mut [u8], at: usize) -> usize
     ensures { (result ≤ at + 561) × Puts out.old at (numbers_text 1 (take 11 (drop 1 ns.now))) out.new result }
 {
     let mut next = at;
-    let mut i = 0;
-    while i < 11 {
+    for i in 0..11 {
         next = put_times((1 + i) as u64, ns[1 + i], out, next);
-        i += 1;
     }
     next
 }

@@ -3,8 +3,8 @@ use Rattle.repeats.proofs.Names.{arrays_fit, never_full}
 use native.Mathlib.Omega.{arith}
 use Rattle.repeats.proofs.among_many.Goals as goal
 
-pub store-r-requires : goal.store-r-requires
-store-r-requires c = arrays_fit 8192 16384 (omega arith) (omega arith)
+pub store-requires : goal.store-requires
+store-requires c = arrays_fit 8192 16384 (omega arith) (omega arith)
 
 pub returns : goal.returns
-returns c = never_full _ _ c.requires c.store-r.ensures
+returns c = rw c.flatten.ensures (never_full _ _ c.requires c.store.ensures)

@@ -19,7 +19,7 @@ shape_of-kids-then-k-eq0 c = c.loop-n.invariant.1
 pub returns-then-k-eq0 : goal.returns-then-k-eq0
 returns-then-k-eq0 c =
     let a = c.args in
-    seen_all a.s.now (λ j. omega (arith, c.shared_slice_known-1.given j)) _ _ _ _ _ _ c.loop-n.invariant.0 c.size_at-k.ensures c.if-k-eq0.true _ c.answered.ensures
+    seen_all a.s.now (λ j. omega (arith, c.shared_slice_known-1.given j)) _ _ _ _ _ _ c.loop-n.invariant.0 c.size_at-k.ensures c.if-k-eq0.true
 
 pub shape_of-keys-then-n-keys : goal.shape_of-keys-then-n-keys
 shape_of-keys-then-n-keys c = c.loop-n.invariant.0.keys_long
@@ -30,7 +30,7 @@ shape_of-kids-then-n-keys c = c.loop-n.invariant.1
 pub returns-then-n-keys : goal.returns-then-n-keys
 returns-then-n-keys c =
     let a = c.args in
-    seen_full a.s.now (λ j. omega (arith, c.shared_slice_known-1.given j)) _ _ _ _ _ _ c.loop-n.invariant.0 c.size_at-k.ensures c.if-k-eq0.false c.if-n-keys.true _ c.answered-then-n-keys.ensures
+    seen_full a.s.now (λ j. omega (arith, c.shared_slice_known-1.given j)) _ _ _ _ _ _ c.loop-n.invariant.0 c.size_at-k.ensures c.if-k-eq0.false c.if-n-keys.true
 
 pub insert-requires : goal.insert-requires
 insert-requires c =
@@ -50,7 +50,7 @@ shape_of-kids-then-insert c =
 pub returns-then-insert : goal.returns-then-insert
 returns-then-insert c =
     let a = c.args in
-    seen_again a.s.now (λ j. omega (arith, c.shared_slice_known-1.given j)) _ _ _ _ _ _ c.loop-n.invariant.0 c.size_at-k.ensures c.if-k-eq0.false _ c.read32.ensures _ _ _ c.insert.ensures c.if-insert.true _ c.answered-then-insert.ensures
+    seen_again a.s.now (λ j. omega (arith, c.shared_slice_known-1.given j)) _ _ _ _ _ _ c.loop-n.invariant.0 c.size_at-k.ensures c.if-k-eq0.false _ c.read32.ensures _ _ _ c.insert.ensures c.if-insert.true
 
 pub overflow_add-n : goal.overflow_add-n
 overflow_add-n c =

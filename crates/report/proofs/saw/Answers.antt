@@ -4,4 +4,4 @@ use Rattle.report.proofs.Ways.{line_dated}
 use Rattle.report.proofs.saw.Goals as goal
 
 pub returns-clause-text : goal.returns-clause-text
-returns-clause-text c = rw (← c.read-a.ensures) (line_dated _ _ _ _ _ _ _ refl c.line-n.ensures)
+returns-clause-text c = rw (← c.read.ensures, ← c.from-a.ensures) (line_dated _ _ _ _ _ _ _ refl c.line-n.ensures)
