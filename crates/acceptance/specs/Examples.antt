@@ -8,8 +8,7 @@ use Rattle.description.specs.AnnexC.{annex_c}
 use Rattle.description.specs.Answers as descriptions
 use Rattle.places.specs.Parts.{Places, layout_for}
 use Rattle.dispersal.specs.Dispersal as dispersal
-use Rattle.hand.specs.Hand.{hand_for}
-use Rattle.hand.specs.declared.Handed.{Handed}
+use Rattle.hand.specs.Hand.{hand_for, Handed}
 use Rattle.hand.specs.declared.Settings.{Settings}
 use Rattle.hand.specs.declared.Three.{Three}
 

@@ -34,7 +34,8 @@ pub fn settings_at(body: &[u8], at: usize) -> Settings {
 }
 
 pub fn settings_check(body: &[u8]) -> Said {
-    saying::begin(settings_at(body, 0).check(), 0)
+    let (number, ()) = saying::numbered(settings_at(body, 0).check());
+    saying::begin(number, 0)
 }
 
 // The three numbers of the queues.
@@ -44,8 +45,9 @@ pub fn tell_three(said: Said, t: Three) -> Said {
 
 pub fn hand_out(body: &[u8]) -> Said {
     let waiting = three_at(body, SETTINGS);
-    let done = settings_at(body, 0).hand_out(waiting, number_at(body, SETTINGS + 24));
-    let said = tell_three(saying::begin(done.number, 0), done.packets);
+    let turn = number_at(body, SETTINGS + 24);
+    let (number, done) = saying::numbered(settings_at(body, 0).hand_out(waiting, turn));
+    let said = tell_three(saying::begin(number, 0), done.packets);
     saying::three(
         said,
         done.spares as u64,

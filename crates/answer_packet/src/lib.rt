@@ -6,12 +6,13 @@ use packet::Head;
 use refusal::Refusal;
 use saying::Said;
 
-fn number_at(body: &[u8], at: usize) -> usize {
-    fields::read64(body, at) as usize
+// p stands at the front of each of these bodies.
+fn p_in(body: &[u8]) -> usize {
+    fields::read64(body, 0) as usize
 }
 
 pub fn packet_check(body: &[u8], s: &[u8]) -> Said {
-    let (number, ()) = saying::numbered(packet::check(number_at(body, 0), s));
+    let (number, ()) = saying::numbered(packet::check(p_in(body), s));
     saying::begin(number, 0)
 }
 
@@ -27,7 +28,7 @@ pub fn packet_read(body: &[u8], out: &mut [u8]) -> usize {
     let mut room = [0u8; case::BUFFER];
     let taken = case::buffer(body, 8, &mut room);
     let s = case::front(&room, taken.map_or(0, |t| t.len));
-    let p = number_at(body, 0);
+    let p = p_in(body);
     let said = saying::only_if(Some(told(packet::read(p, s))), case::ends(taken, body));
     saying::lent(out, said, packet::useful(p, s))
 }
@@ -37,7 +38,7 @@ pub fn packet_write(body: &[u8], useful: &[u8], dst: &mut [u8]) -> Said {
     let last = case::byte(body, 9) != 0;
     let id = case::byte(body, 10);
     let index = case::byte(body, 11);
-    let done = packet::write(number_at(body, 0), first, last, id, index, useful, dst);
+    let done = packet::write(p_in(body), first, last, id, index, useful, dst);
     let (number, length) = saying::numbered(done);
     saying::one(number, length as u64)
 }

@@ -7,8 +7,7 @@ use Rattle.laws.specs.Pick.{pick}
 use Rattle.laws.specs.Refuse.{Test, test, refused_with}
 use Rattle.laws.specs.Written.{written}
 use Rattle.clock.specs.declared.Stamp.{Stamp}
-use Rattle.moves.specs.declared.Wrote.{Wrote}
-use Rattle.moves.specs.Wrote.{wrote_of}
+use Rattle.moves.specs.Wrote.{Wrote, wrote_of}
 use Rattle.clock.specs.Answers.{Stamped, no_stamp}
 
 -- the item's fields, in its order

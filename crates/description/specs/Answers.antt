@@ -8,8 +8,7 @@ use Rattle.description.specs.declared.Description.{Description}
 use Rattle.description.specs.declared.Versioned.{Versioned}
 use Rattle.refusal.specs.declared.Refusal.{Refusal}
 use Rattle.refusal.specs.Refusal.{number_of}
-use Rattle.moves.specs.declared.Wrote.{Wrote}
-use Rattle.moves.specs.Wrote.{wrote_of}
+use Rattle.moves.specs.Wrote.{Wrote, wrote_of}
 use Rattle.description.specs.Bytes.{head_bits, level_bits, fields_in, value_of, entity_of, nothing, described_by}
 use Rattle.description.specs.WellFormed.{is_too_large, ill_formed}
 

@@ -5,8 +5,7 @@ use Rattle.laws.specs.Pick.{pick}
 use Rattle.laws.specs.Refuse.{Test, test, refused_with}
 use Rattle.laws.specs.Written.{written}
 use Rattle.fac.specs.declared.Fac.{Fac}
-use Rattle.moves.specs.declared.Wrote.{Wrote}
-use Rattle.moves.specs.Wrote.{wrote_of}
+use Rattle.moves.specs.Wrote.{Wrote, wrote_of}
 use Rattle.refusal.specs.declared.Refusal.{Refusal}
 use Rattle.refusal.specs.Refusal.{number_of}
 use Rattle.fac.specs.Channel.{from_fields, fac_bytes, fac_of, sealed, is_too_large, not_served}

@@ -9,8 +9,7 @@ use Rattle.laws.specs.Written.{written}
 use Rattle.description.specs.declared.Lengths.{Lengths}
 use Rattle.description.specs.declared.Description.{Description}
 use Rattle.places.specs.declared.Part.{Part}
-use Rattle.moves.specs.declared.Wrote.{Wrote}
-use Rattle.moves.specs.Wrote.{wrote_of}
+use Rattle.moves.specs.Wrote.{Wrote, wrote_of}
 use Rattle.description.specs.Answers.{handed}
 use Rattle.description.specs.Bytes.{filled}
 use Rattle.places.specs.Parts.{used_by, parts_of, bad_capacity, no_part}

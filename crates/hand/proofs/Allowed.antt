@@ -1,5 +1,6 @@
 -- The settings' limits: what the check answers, and that it answers 0 exactly if 01's conditions hold. Assumes nothing.
 use mathlib.Core.Path.{◌≡◌, refl, sym, ◌∙◌}
+use mathlib.Core.List.{List, [], ◌∷◌}
 use mathlib.Core.Bool.{Bool, true, false, ◌||◌, true≢false}
 use Prim.Native.Nat.{ℕ, ◌+◌, ◌*◌, ◌/◌, ◌≤◌, ◌<◌}
 use native.Mathlib.Nat.{div-le_self, div-add-mod', mod-lt, mul-le-mul_right}
@@ -7,24 +8,13 @@ use native.Mathlib.Omega.{arith}
 use borrow.Author.Tests.{eq-eqb, ne_eqb, lt-ltb, le-ltb, eqb-false, ltb-false}
 use lib.Dec.{ltb, eqb, lit<}
 use Rattle.laws.specs.Pick.{pick}
+use Rattle.laws.specs.Refuse.{Test, refused_with}
 use Rattle.laws.proofs.Refuse.{free, accepted}
 use Rattle.hand.specs.Settings.{total, unfit, settings_tests, settings_for, Limits, Allowed}
 use Rattle.hand.specs.declared.Settings.{Settings}
 
 -- ---- one queue's share and ceiling
 module _ (n s m : ℕ) where
-  pub unfit_share : m < s → true ≡ unfit n s m
-  unfolding unfit
-  unfit_share h = simp (lt-ltb _ _ h)
-
-  pub unfit_none : s ≤ m → m ≡ 0 → true ≡ unfit n s m
-  unfolding unfit
-  unfit_none h e = simp (le-ltb _ _ h, eq-eqb _ _ e)
-
-  pub unfit_rest : s ≤ m → (m ≡ 0 → ⊥) → ltb n m ≡ unfit n s m
-  unfolding unfit
-  unfit_rest h e = simp (le-ltb _ _ h, ne_eqb _ _ e)
-
   limits : unfit n s m ≡ false → Limits n s m
   unfolding unfit
   limits = go (ltb m s) refl (eqb m 0) refl (ltb n m) refl
@@ -127,22 +117,31 @@ module _ (s : Settings) where
         ),
       )
 
-  -- where every test of the code has passed
-  pub all_right : (s.p ≡ 0 → ⊥) → s.p ≤ 255 → (s.n ≡ 0 → ⊥) → s.n ≤ 8190 / (s.p + 3)
-      → (a b c : Bool) → a ≡ unfit s.n s.share.a s.ceiling.a → a ≡ false → b ≡ unfit s.n s.share.b s.ceiling.b → b ≡ false
-      → c ≡ unfit s.n s.share.c s.ceiling.c → c ≡ false → s.share.a + s.share.b + s.share.c ≤ s.n → 0 ≡ settings_for s
-  unfolding settings_for settings_tests
-  all_right hp hq hn hr a b c ea ha eb hb ec hc hs =
-      simp (ne_eqb _ _ hp, le-ltb _ _ hq, ne_eqb _ _ hn, le-ltb _ _ (under s.p s.n hr), ← ea, ha, ← eb, hb, ← ec, hc, le-ltb _ _ hs)
+-- ---- tests of one number, as those of settings: a refusal is that number
+abbrev pub Alike : ℕ → List Test → Type 0
+Alike n [] = Unit {0}
+Alike n (t ∷ ts) = (t.number ≡ n) × Alike n ts
+
+pub only : (n : ℕ) (ts : List Test) → Alike n ts → (refused_with ts ≡ 0 → ⊥) → refused_with ts ≡ n
+only n [] a h = absurd (h refl)
+only n (t ∷ ts) a h = go t.holds (only n ts a.1) h
+  where
+    go : (b : Bool) → ((refused_with ts ≡ 0 → ⊥) → refused_with ts ≡ n) → (pick b t.number (refused_with ts) ≡ 0 → ⊥) → pick b t.number (refused_with ts) ≡ n
+    go true k h = a.0
+    go false k h = k h
+
+pub only_13 : (s : Settings) (k : ℕ) → k ≡ settings_for s → (k ≡ 0 → ⊥) → k ≡ 13
+unfolding settings_for settings_tests
+only_13 s k e h = e ∙ only 13 (settings_tests s) (refl, (refl, (refl, (refl, (refl, (refl, (refl, (refl, tt)))))))) (λ z. h (e ∙ z))
 
 pub allowed_by : (s : Settings) (number : ℕ) → number ≡ settings_for s → number ≡ 0 → Allowed s
 allowed_by s number e z = allowed s (sym e ∙ z)
 
 -- shares that passed have a sum that fits
-pub sum_fits : (n p x y z l m k : ℕ) (a b c : Bool) → n ≤ 8190 / (p + 3) → a ≡ unfit n x l → a ≡ false → b ≡ unfit n y m → b ≡ false
-    → c ≡ unfit n z k → c ≡ false → x + y + z ≤ 24570
-sum_fits n p x y z l m k a b c h ea ha eb hb ec hc =
+pub sum_fits : (n p room x y z l m k : ℕ) (a b c : Bool) → n ≤ room / (p + 3) → a ≡ unfit n x l → a ≡ false → b ≡ unfit n y m → b ≡ false
+    → c ≡ unfit n z k → c ≡ false → x + y + z ≤ 3 * room
+sum_fits n p room x y z l m k a b c h ea ha eb hb ec hc =
     let u = limits n x l (sym ea ∙ ha) in
     let v = limits n y m (sym eb ∙ hb) in
     let w = limits n z k (sym ec ∙ hc) in
-    omega (arith, u.below, u.most, v.below, v.most, w.below, w.most, div-le_self 8190 (p + 3))
+    omega (arith, u.below, u.most, v.below, v.most, w.below, w.most, div-le_self room (p + 3))

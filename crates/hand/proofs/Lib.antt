@@ -5,4 +5,5 @@ pub mod Served
 pub mod Answer
 pub mod Turn
 pub mod Alternate
+pub mod Told
 pub mod Settled

@@ -1,11 +1,13 @@
 -- What a frame hands each of the three queues (01, "Packets, queues and receiver", "A frame"). Assumes nothing.
-use Rattle.std.specs.Prelude.{ℕ, zero, suc, ◌+◌, ◌-◌, ◌%◌, min, List, [], ◌∷◌, ◌++◌, Bool, ltb, eqb}
+use Rattle.std.specs.Prelude.{ℕ, zero, suc, ◌+◌, ◌-◌, ◌%◌, min, List, [], ◌∷◌, ◌++◌, Bool, ltb, eqb, Result, Ok, Err}
 use Rattle.laws.specs.Pick.{pick}
+use Rattle.refusal.specs.declared.Refusal.{Refusal}
+use Rattle.refusal.specs.Refusal.{number_of}
 use Rattle.hand.specs.Settings.{at, total, settings_for}
 use Rattle.hand.specs.declared.Three.{Three}
 use Rattle.hand.specs.declared.Plan.{Plan}
 use Rattle.hand.specs.declared.Settings.{Settings}
-use Rattle.hand.specs.declared.Handed.{Handed}
+use Rattle.hand.specs.declared.Handed as declared
 
 -- the smaller of two numbers, for each queue
 abbrev pub low : Three → Three → Three
@@ -88,6 +90,19 @@ plan_for s waiting turn = hand_out s.n waiting s.share s.ceiling turn
 
 abbrev pub no_three : Three
 no_three = record { a = 0; b = 0; c = 0 }
+
+-- what the call answers: the number; the packets of a frame for each queue, the spares among them, the filler, and the turn after it
+pub record Handed : Type 0 where
+  pub number : ℕ
+  pub packets : Three
+  pub spares : ℕ
+  pub filler : ℕ
+  pub turn : ℕ
+
+-- and in these terms: all zero where it is refused
+abbrev pub handed_in : Result declared.Handed Refusal → Handed
+handed_in (Ok h) = record { number = 0; packets = h.packets; spares = h.spares; filler = h.filler; turn = h.turn }
+handed_in (Err r) = record { number = number_of r; packets = no_three; spares = 0; filler = 0; turn = 0 }
 
 -- the answer of the call. Spares are the packets above what share and waiting gave
 unfoldable pub hand_for : Settings → Three → ℕ → Handed

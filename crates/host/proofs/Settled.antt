@@ -1,5 +1,5 @@
--- The promises of dispersal, of the packet check and of the receiver's calls settle them; the others have the library's own promises, whose
--- theorems stand beside the library's calls.
+-- The promises of dispersal, of the packet check, of the settings' check and of the receiver's calls settle them; the others have the library's
+-- own promises, whose theorems stand beside the library's calls.
 -- Assumes nothing.
 use mathlib.Core.Path.{◌≡◌}
 use mathlib.Core.List.{List}
@@ -9,6 +9,8 @@ use Rattle.laws.specs.Settle.{Settles}
 use Rattle.laws.proofs.Settle.{settled, settled_both}
 use Rattle.dispersal.specs.Dispersal.{number_for, output_for}
 use Rattle.packet.specs.Calls.{check_for}
+use Rattle.hand.specs.Settings.{settings_for}
+use Rattle.hand.specs.declared.Settings.{Settings}
 use Rattle.receiver.specs.declared.Receiver.{Receiver}
 use Rattle.receiver.specs.Receiver.{buffer_for}
 use Rattle.host.specs.declared.Received.{Received}
@@ -17,6 +19,10 @@ use Rattle.host.specs.Received.{received_for, unheard}
 -- `keshgurvat_packet_check`: an input is p and the packet
 pub packet_check : Settles (λ (i : ℕ × List ℕ) (r : ℕ). r ≡ check_for i.0 i.1)
 packet_check = settled (λ i. check_for i.0 i.1)
+
+-- `keshgurvat_settings_check` gives the refusal as its number
+pub settings_check : Settles (λ (s : Settings) (r : ℕ). r ≡ settings_for s)
+settings_check = settled settings_for
 
 -- `keshgurvat_receiver_fresh` is handed nothing
 pub receiver_fresh : Settles (λ (i : Unit {0}) (r : Receiver). r ≡ unheard)

@@ -6,7 +6,6 @@
 ghost use Rattle.std.specs.Prelude.{◌≡◌, length};
 ghost use Rattle.dispersal.specs.Dispersal.{number_for, output_for};
 ghost use Rattle.packet.specs.Calls.{check_for};
-ghost use Rattle.refusal.specs.Refusal.{number_in};
 ghost use Rattle.hand.specs.Settings.{settings_for};
 ghost use Rattle.receiver.specs.Answer.{answer_of};
 ghost use Rattle.receiver.specs.Receiver.{buffer_for};
@@ -51,7 +50,7 @@ pub extern "C" fn keshgurvat_packet_check(p: usize, packet: &[u8]) -> u32
 pub extern "C" fn keshgurvat_settings_check(settings: Settings) -> u32
     ensures { result ≡ settings_for settings }
 {
-    settings.check()
+    refusal::number(settings.check())
 }
 
 #[unsafe(no_mangle)]

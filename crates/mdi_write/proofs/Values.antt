@@ -23,7 +23,7 @@ use Rattle.moves.proofs.Turns.{placed_is}
 use Rattle.std.specs.Prelude.{Result, Ok, Err}
 use Rattle.std.specs.Result.{result_unwrap_or}
 use Rattle.refusal.specs.declared.Refusal.{Refusal}
-use Rattle.moves.specs.Wrote.{wrote_in}
+use Rattle.moves.specs.Wrote.{Wrote, wrote_in}
 use Rattle.clock.specs.declared.Stamp.{Stamp}
 use Rattle.clock.specs.Stamps as clock
 use Rattle.clock.proofs.Back as stamp
@@ -194,7 +194,7 @@ module _ (d : Description) (mode : ℕ) (large : forms.is_too_large d ≡ false)
   length_said : (r : Result ℕ Refusal) → wrote_in r ≡ answers.write_for d mode (replicate 13 0) → result_unwrap_or r 0 ≡ 1 + 3 * d.count
   length_said r q =
       let z = zeros_length 13 in
-      wrote_length r ∙ ap (λ (x : Rattle.moves.specs.declared.Wrote.Wrote). x.length) (q ∙ (write_is (zeros 13) (omega arith)).0)
+      wrote_length r ∙ ap (λ (x : Wrote). x.length) (q ∙ (write_is (zeros 13) (omega arith)).0)
 
   pub description_length : (r : Result ℕ Refusal) (n : ℕ) → n ≡ result_unwrap_or r 0 → wrote_in r ≡ answers.write_for d mode (replicate 13 0) → n ≤ 13
   description_length r n e q =

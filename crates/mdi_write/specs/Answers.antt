@@ -13,8 +13,7 @@ use Rattle.record.specs.declared.Record.{Record}
 use Rattle.record.specs.declared.Time.{Time}
 use Rattle.record.specs.declared.Time.TheVariants.{Absent, Given}
 use Rattle.mdi_spots.specs.Streams.{filled}
-use Rattle.moves.specs.declared.Wrote.{Wrote}
-use Rattle.moves.specs.Wrote.{wrote_of}
+use Rattle.moves.specs.Wrote.{Wrote, wrote_of}
 use Rattle.mdi_write.specs.Packet.{Streams, packet_of}
 
 -- a stream over 65,528 bytes

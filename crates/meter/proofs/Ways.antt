@@ -22,8 +22,7 @@ use Rattle.refusal.specs.declared.Refused.{Refused}
 use Rattle.std.specs.Prelude.{Ok, Err}
 use Rattle.mdi_write.specs.Answers.{write_for, out_for}
 use Rattle.mdi_write.specs.Packet.{Streams}
-use Rattle.moves.specs.declared.Wrote.{Wrote}
-use Rattle.moves.specs.Wrote.{wrote_in}
+use Rattle.moves.specs.Wrote.{Wrote, wrote_in}
 use Rattle.refusal.specs.declared.Refusal.{Refusal}
 use Rattle.std.specs.Prelude.{Result}
 use Rattle.meter.specs.declared.Seen.{Seen}

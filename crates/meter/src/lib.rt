@@ -5,7 +5,6 @@ ghost use Rattle.std.specs.Prelude.{◌≡◌, length, get_or};
 ghost use Rattle.crc.specs.Crc.{crc_of};
 ghost use Rattle.dispersal.specs.Dispersal.{number_for, output_for};
 ghost use Rattle.packet.specs.Calls.{check_for};
-ghost use Rattle.refusal.specs.Refusal.{number_in};
 ghost use Rattle.mdi_write.specs.Answers.{out_for};
 ghost use Rattle.mdi_write.specs.Packet.{four};
 ghost use Rattle.meter.specs.Seen.{seen_in, record_for, wrote_for};

@@ -2,8 +2,7 @@
 use Prim.Native.Nat.{ℕ}
 use mathlib.Core.Path.{refl, ap}
 use Rattle.refusal.proofs.Told.{Tells}
-use Rattle.moves.specs.declared.Wrote.{Wrote}
-use Rattle.moves.specs.Wrote.{wrote_in}
+use Rattle.moves.specs.Wrote.{Wrote, wrote_in}
 
 pub wrote_tells : Tells {A = ℕ} {V = Wrote} wrote_in
 wrote_tells =

@@ -3,7 +3,11 @@ use Rattle.std.specs.Prelude.{ℕ, Result, Ok, Err, eqb}
 use Rattle.laws.specs.Pick.{pick}
 use Rattle.refusal.specs.declared.Refusal.{Refusal}
 use Rattle.refusal.specs.Refusal.{number_of}
-use Rattle.moves.specs.declared.Wrote.{Wrote}
+
+-- 01's number, and how many bytes of the output are written, none where the call refuses
+pub record Wrote : Type 0 where
+  pub number : ℕ
+  pub length : ℕ
 
 -- the number, and so many bytes written where it is 0
 abbrev pub wrote_of : ℕ → ℕ → Wrote

@@ -4,14 +4,6 @@
 ghost use Rattle.std.specs.Prelude.{◌≡◌, ◌+◌, leb, length, replicate};
 ghost use Rattle.moves.specs.Moves.{placed, behind};
 
-// The answer of a call that writes, in this crate and those above it: 01's number, and how many bytes of the output are written, none
-// where it is refused.
-#[derive(Clone, Copy)]
-pub struct Wrote {
-    pub number: u32,
-    pub length: usize,
-}
-
 // Whether n bytes from index at on lie within the slice. The offset may be any number, so the sum is formed only where it has room.
 fn fits(s: &[u8], at: usize, n: usize) -> bool
     ensures { result ≡ leb (at + n) (length s.now) }

@@ -26,6 +26,6 @@ fn number(book: &Book, store: &mut [u8]) -> u32 {
 // The night can be run; where it cannot, a sentence says why.
 pub(crate) fn is_fit(rt: &impl Print, book: &Book, store: &mut [u8]) -> bool {
     let number = number(book, store);
-    night_book::refuse(rt, number);
+    night_book::refuse(rt, number as usize);
     number == 0
 }

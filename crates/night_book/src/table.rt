@@ -31,7 +31,7 @@ fn print_wait(rt: &impl Print, n: usize, bound: usize) {
 }
 
 // Why a night cannot be run: the number that the sender gives its settings or its units. 0 says nothing.
-pub fn refuse(rt: &impl Print, number: u32) {
+pub fn refuse(rt: &impl Print, number: usize) {
     let _ = match number {
         0 => Ok(()),
         13 => print!(rt;

@@ -21,7 +21,7 @@ use Rattle.moves.specs.Moves.{placed}
 use Rattle.moves.proofs.Turns.{placed_is}
 use Rattle.packet.specs.Packet.{packet_of, flag, head_of, data_of, plain_of, sealed, encode}
 use Rattle.packet.specs.Calls.{write_tests, write_number_for, write_for, out_for}
-use Rattle.moves.specs.declared.Wrote.{Wrote}
+use Rattle.moves.specs.Wrote.{Wrote}
 use Rattle.packet.proofs.Checks.{from_start}
 
 -- a flag as a number

@@ -10,8 +10,7 @@ use Rattle.crc.specs.Crc.{crc_of}
 use Rattle.packet.specs.Packet.{Packet, padded, decode, encode}
 use Rattle.packet.specs.declared.Head as said
 use Rattle.packet.specs.Head.{Head}
-use Rattle.moves.specs.declared.Wrote.{Wrote}
-use Rattle.moves.specs.Wrote.{wrote_of}
+use Rattle.moves.specs.Wrote.{Wrote, wrote_of}
 
 -- ---- check, read, useful
 -- the two bytes behind the data are another number than the CRC-16 of all before them

@@ -11,6 +11,7 @@ use plans::Plans;
 use sender::{Loaded, Sender};
 
 // The sender's answer to a frame, and the record of settings after it.
+// Kept: number and values side by side, as the sender's own answers, which cross to C by value.
 #[repr(C)]
 #[derive(Clone, Copy)]
 pub struct Framed {
@@ -26,10 +27,10 @@ pub struct Framed {
 fn kept(number: u32, then: Plans, was: Plans) -> Plans
     ensures { result ≡ pick (eqb number 0) then was }
 {
-    if number == 0 {
-        return then;
+    match number {
+        0 => then,
+        _ => was,
     }
-    was
 }
 
 // A unit enters queue id, or is refused and nothing changes. Refused with 13: the record, the set that waits included. Then as the sender's
@@ -38,15 +39,13 @@ pub fn load(sender: Sender, settings: Plans, store: &mut [u8], id: usize, unit: 
     ensures answer { result ≡ plan_load_for settings sender id unit.now store.old }
     ensures memory { store.new ≡ plan_store_for settings sender id unit.now store.old }
 {
-    let number = settings.check();
-    if number != 0 {
-        return Loaded {
-            number: number,
+    match settings.check() {
+        Ok(()) => sender.load(settings.now, store, id, unit),
+        Err(why) => Loaded {
+            number: why.number(),
             next: sender,
-        };
+        },
     }
-    let g = settings.now;
-    sender.load(g, store, id, unit)
 }
 
 // The frame with this count, by the set then in force, and the record after it. Refused with 13: the record, the set that waits included.
@@ -55,30 +54,24 @@ pub fn frame(sender: Sender, settings: Plans, count: u32, store: &[u8], out: &mu
     ensures answer { result ≡ plan_frame_for settings count sender store.now out.old }
     ensures written { out.new ≡ plan_frame_out settings count sender store.now out.old }
 {
-    let number = settings.check();
-    if number != 0 {
-        let none = Three { a: 0, b: 0, c: 0 };
+    if let Err(why) = settings.check() {
         return Framed {
-            number: number,
+            number: why.number(),
             next: sender,
-            packets: none,
+            packets: Three { a: 0, b: 0, c: 0 },
             spares: 0,
             filler: 0,
-            settings: settings,
+            settings,
         };
     }
     let then = settings.in_force(count);
-    let g = then.now;
-    let f = sender.frame(g, store, out);
-    let next = f.next;
-    let packets = f.packets;
-    let after = kept(f.number, then, settings);
+    let sent = sender.frame(then.now, store, out);
     Framed {
-        number: f.number,
-        next: next,
-        packets: packets,
-        spares: f.spares,
-        filler: f.filler,
-        settings: after,
+        number: sent.number,
+        next: sent.next,
+        packets: sent.packets,
+        spares: sent.spares,
+        filler: sent.filler,
+        settings: kept(sent.number, then, settings),
     }
 }

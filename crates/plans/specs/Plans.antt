@@ -1,16 +1,16 @@
 -- Settings with a second set of N, shares and ceilings that waits for its frame count (02, E10). p is the record's, for both sets. Assumes
 -- nothing.
-use Rattle.std.specs.Prelude.{ℕ, List, [], ◌∷◌, false, true, not, ◌&&◌, eqb}
+use Rattle.std.specs.Prelude.{ℕ, List, [], ◌∷◌, false, true, not, ◌&&◌, eqb, Result, Ok, Err}
 use Rattle.laws.specs.Pick.{pick}
 use Rattle.laws.specs.Refuse.{Test, test, refused_with}
+use Rattle.refusal.specs.declared.Refusal.{Refusal}
+use Rattle.refusal.specs.Refusal.{number_of}
 use Rattle.hand.specs.Settings.{settings_for}
-use Rattle.hand.specs.Hand.{no_three, hand_for}
+use Rattle.hand.specs.Hand.{no_three, Handed, hand_for}
 use Rattle.hand.specs.declared.Three.{Three}
 use Rattle.hand.specs.declared.Settings.{Settings}
-use Rattle.hand.specs.declared.Handed.{Handed}
 use Rattle.plans.specs.declared.Second.{Second}
 use Rattle.plans.specs.declared.Plans.{Plans}
-use Rattle.plans.specs.declared.Changed.{Changed}
 
 -- ---- the record
 -- no set waits
@@ -56,6 +56,16 @@ plan_hand_for g f waiting turn =
 -- the record with this set waiting for count c, whatever waited before
 abbrev pub changed : Plans → ℕ → ℕ → Three → Three → Plans
 changed g c n share ceiling = record { now = g.now; second = record { waits = true; count = c; n = n; share = share; ceiling = ceiling } }
+
+-- what the call answers: the number, and the record after the call
+pub record Changed : Type 0 where
+  pub number : ℕ
+  pub next : Plans
+
+-- and in these terms: a refused one leaves the record as it came
+abbrev pub changed_in : Plans → Result Plans Refusal → Changed
+changed_in g (Ok t) = record { number = 0; next = t }
+changed_in g (Err r) = record { number = number_of r; next = g }
 
 unfoldable pub change_tests : Plans → ℕ → Three → Three → List Test
 change_tests g n share ceiling =

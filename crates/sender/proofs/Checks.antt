@@ -135,20 +135,20 @@ module _ (g : Settings) (s : Sender) (room size : ℕ) where
   pub frame_13 : (k : ℕ) → k ≡ settings_for g → (k ≡ 0 → ⊥) → 13 ≡ refused_with (ring_frame_tests g s room size)
   frame_13 k e h = rw frame_flat (simp (← e, ne_eqb k 0 h))
 
-  module _ (k : ℕ) (ek : k ≡ settings_for g) (hk : k ≡ 0) (b : Bool) (eb : b ≡ faulty g.p s) where
+  module _ (ek : 0 ≡ settings_for g) (b : Bool) (eb : b ≡ faulty g.p s) where
     pub frame_17 : b ≡ true → 17 ≡ refused_with (ring_frame_tests g s room size)
-    frame_17 h = rw frame_flat (simp (← ek, eq-eqb k 0 hk, ← eb, h))
+    frame_17 h = rw frame_flat (simp (← ek, ← eb, h))
 
     module _ (hb : b ≡ false) where
       pub frame_1 : (room ≡ 12288 → ⊥) → 1 ≡ refused_with (ring_frame_tests g s room size)
-      frame_1 h = rw frame_flat (simp (← ek, eq-eqb k 0 hk, ← eb, hb, ne_eqb _ _ h))
+      frame_1 h = rw frame_flat (simp (← ek, ← eb, hb, ne_eqb _ _ h))
 
       module _ (hr : room ≡ 12288) where
         pub frame_1_late : size < g.n * (g.p + 3) → 1 ≡ refused_with (ring_frame_tests g s room size)
-        frame_1_late h = rw frame_flat (simp (← ek, eq-eqb k 0 hk, ← eb, hb, eq-eqb _ _ hr, lt-ltb _ _ h))
+        frame_1_late h = rw frame_flat (simp (← ek, ← eb, hb, eq-eqb _ _ hr, lt-ltb _ _ h))
 
         pub frame_0 : g.n * (g.p + 3) ≤ size → 0 ≡ refused_with (ring_frame_tests g s room size)
-        frame_0 h = rw frame_flat (simp (← ek, eq-eqb k 0 hk, ← eb, hb, eq-eqb _ _ hr, le-ltb _ _ h))
+        frame_0 h = rw frame_flat (simp (← ek, ← eb, hb, eq-eqb _ _ hr, le-ltb _ _ h))
 
   pub going_of : refused_with (ring_frame_tests g s room size) ≡ 0 → Going g s room size
   unfolding ring_frame_tests kept_frame_tests
@@ -185,39 +185,39 @@ module _ (g : Settings) (s : Sender) (id n room : ℕ) where
   unfolding unit_tests
   load_13 k e h = simp (← e, ne_eqb k 0 h)
 
-  module _ (k : ℕ) (ek : k ≡ settings_for g) (hk : k ≡ 0) (b : Bool) (eb : b ≡ faulty g.p s) where
+  module _ (ek : 0 ≡ settings_for g) (b : Bool) (eb : b ≡ faulty g.p s) where
     pub load_17 : b ≡ true → 17 ≡ refused_with (unit_tests g s id n room)
     unfolding unit_tests
-    load_17 h = simp (← ek, eq-eqb k 0 hk, ← eb, h)
+    load_17 h = simp (← ek, ← eb, h)
 
     module _ (hb : b ≡ false) where
       pub load_1 : (room ≡ 12288 → ⊥) → 1 ≡ refused_with (unit_tests g s id n room)
       unfolding unit_tests
-      load_1 h = simp (← ek, eq-eqb k 0 hk, ← eb, hb, ne_eqb _ _ h)
+      load_1 h = simp (← ek, ← eb, hb, ne_eqb _ _ h)
 
       module _ (hr : room ≡ 12288) where
         pub load_1_unit : 65528 < n → 1 ≡ refused_with (unit_tests g s id n room)
         unfolding unit_tests
-        load_1_unit h = simp (← ek, eq-eqb k 0 hk, ← eb, hb, eq-eqb _ _ hr, lt-ltb _ _ h)
+        load_1_unit h = simp (← ek, ← eb, hb, eq-eqb _ _ hr, lt-ltb _ _ h)
 
         module _ (hl : n ≤ 65528) where
           pub load_14_empty : n ≡ 0 → 14 ≡ refused_with (unit_tests g s id n room)
           unfolding unit_tests
-          load_14_empty h = simp (← ek, eq-eqb k 0 hk, ← eb, hb, eq-eqb _ _ hr, le-ltb _ _ hl, eq-eqb _ _ h)
+          load_14_empty h = simp (← ek, ← eb, hb, eq-eqb _ _ hr, le-ltb _ _ hl, eq-eqb _ _ h)
 
           module _ (hn : n ≡ 0 → ⊥) where
             pub load_14_long : 4096 < n → 14 ≡ refused_with (unit_tests g s id n room)
             unfolding unit_tests
-            load_14_long h = simp (← ek, eq-eqb k 0 hk, ← eb, hb, eq-eqb _ _ hr, le-ltb _ _ hl, ne_eqb _ _ hn, lt-ltb _ _ h)
+            load_14_long h = simp (← ek, ← eb, hb, eq-eqb _ _ hr, le-ltb _ _ hl, ne_eqb _ _ hn, lt-ltb _ _ h)
 
             module _ (hm : n ≤ 4096) where
               pub load_14_id : 2 < id → 14 ≡ refused_with (unit_tests g s id n room)
               unfolding unit_tests
-              load_14_id h = simp (← ek, eq-eqb k 0 hk, ← eb, hb, eq-eqb _ _ hr, le-ltb _ _ hl, ne_eqb _ _ hn, le-ltb _ _ hm, lt-ltb _ _ h)
+              load_14_id h = simp (← ek, ← eb, hb, eq-eqb _ _ hr, le-ltb _ _ hl, ne_eqb _ _ hn, le-ltb _ _ hm, lt-ltb _ _ h)
 
               pub load_0 : id ≤ 2 → 0 ≡ refused_with (unit_tests g s id n room)
               unfolding unit_tests
-              load_0 h = simp (← ek, eq-eqb k 0 hk, ← eb, hb, eq-eqb _ _ hr, le-ltb _ _ hl, ne_eqb _ _ hn, le-ltb _ _ hm, le-ltb _ _ h)
+              load_0 h = simp (← ek, ← eb, hb, eq-eqb _ _ hr, le-ltb _ _ hl, ne_eqb _ _ hn, le-ltb _ _ hm, le-ltb _ _ h)
 
   -- what is known of a unit where its queue's room is looked at
   pub record Offered : Type 0 where

@@ -17,10 +17,9 @@ use Rattle.laws.proofs.Refuse.{free}
 use Rattle.laws.proofs.Written.{write_next}
 use Rattle.packet.specs.Packet.{packet_of, encode}
 use Rattle.hand.specs.Settings.{total, settings_for, Allowed}
-use Rattle.hand.specs.Hand.{hand_for}
+use Rattle.hand.specs.Hand.{hand_for, Handed}
 use Rattle.hand.specs.declared.Three.{Three}
 use Rattle.hand.specs.declared.Settings.{Settings}
-use Rattle.hand.specs.declared.Handed.{Handed}
 use Rattle.hand.proofs.Allowed.{allowed}
 use Rattle.hand.proofs.Answer.{hand_total}
 use Rattle.moves.proofs.Parts.{tail_written}
@@ -163,8 +162,8 @@ steps_at p zero o = omega arith
 steps_at p (suc n) o = omega (arith, steps_at p n o, head_len_p p (steps p n o).q)
 
 -- ---- the refusals
-pub product_in : (g : Settings) (k : ℕ) → k ≡ settings_for g → k ≡ 0 → g.n * (g.p + 3) ≤ 8190
-product_in g k ek hk = (allowed g (sym ek ∙ hk)).room
+pub product_in : (g : Settings) → 0 ≡ settings_for g → g.n * (g.p + 3) ≤ 8190
+product_in g e = (allowed g (sym e)).room
 
 module _ (g : Settings) (s : Front) (room size : ℕ) where
   pub fit_of : refused_with (frame_tests g s room size) ≡ 0 → private.Fit g s room size

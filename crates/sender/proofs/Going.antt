@@ -11,11 +11,10 @@ use Rattle.laws.specs.Pick.{pick}
 use Rattle.laws.specs.Refuse.{refused_with}
 use Rattle.laws.specs.Written.{written}
 use Rattle.hand.specs.Settings.{Allowed}
-use Rattle.hand.specs.Hand.{no_three, hand_for}
+use Rattle.hand.specs.Hand.{no_three, hand_for, Handed}
 use Rattle.hand.specs.Served.{Served}
 use Rattle.hand.specs.declared.Three.{Three}
 use Rattle.hand.specs.declared.Settings.{Settings}
-use Rattle.hand.specs.declared.Handed.{Handed}
 use Rattle.hand.proofs.Allowed.{allowed}
 use Rattle.hand.proofs.Answer.{hand_is}
 use Rattle.hand.proofs.Served.{frame_served}

@@ -18,8 +18,8 @@ use Rattle.sender.specs.Private.{Accepted}
 use Rattle.sender.specs.declared.Front.{Front}
 
 -- ---- the refusals
-pub p_fits : (g : Settings) (k : ℕ) → k ≡ settings_for g → k ≡ 0 → g.p ≤ 255
-p_fits g k ek hk = (allowed g (sym ek ∙ hk)).high
+pub p_fits : (g : Settings) → 0 ≡ settings_for g → g.p ≤ 255
+p_fits g e = (allowed g (sym e)).high
 
 module _ (g : Settings) (s : Front) (id n room : ℕ) where
   -- what acceptance says

@@ -6,10 +6,9 @@ use Rattle.laws.specs.Refuse.{Test, test, refused_with}
 use Rattle.laws.specs.Written.{written}
 use Rattle.packet.specs.Packet.{packet_of, encode}
 use Rattle.hand.specs.Settings.{settings_for}
-use Rattle.hand.specs.Hand.{no_three, hand_for}
+use Rattle.hand.specs.Hand.{no_three, hand_for, Handed}
 use Rattle.hand.specs.declared.Three.{Three}
 use Rattle.hand.specs.declared.Settings.{Settings}
-use Rattle.hand.specs.declared.Handed.{Handed}
 use Rattle.moves.specs.Moves.{pulled}
 use Rattle.queue.specs.Queue.{unsent}
 use Rattle.row.specs.Row.{steps, outs}

@@ -1,9 +1,12 @@
 -- What the private functions of this crate ask of their callers: no promise of a public call names it, and nothing here has to be believed. Assumes
 -- nothing.
-use Rattle.std.specs.Prelude.{ℕ, ◌+◌, ◌-◌, ◌*◌, ◌%◌, ◌≤◌, ◌<◌, List, [], ◌∷◌, ◌≡◌, Bool, false, not, ◌||◌, ltb, leb, eqb, length}
+use Rattle.std.specs.Prelude.{ℕ, ◌+◌, ◌-◌, ◌*◌, ◌%◌, ◌≤◌, ◌<◌, List, [], ◌∷◌, ◌≡◌, Bool, false, not, ◌||◌, ltb, leb, eqb, length, Result, Ok, Err}
 use Rattle.laws.specs.Limits.{longest}
 use Rattle.laws.specs.Refuse.{Test, test}
+use Rattle.refusal.specs.declared.Refusal.{Refusal}
+use Rattle.refusal.specs.Refusal.{number_of}
 use Rattle.hand.specs.Settings.{settings_for}
+use Rattle.hand.specs.Hand.{no_three}
 use Rattle.hand.specs.declared.Three.{Three}
 use Rattle.hand.specs.declared.Settings.{Settings}
 use Rattle.queue.specs.Queue.{unsent}
@@ -14,6 +17,8 @@ use Rattle.sender.specs.Rings.{front_of, kept_of, strayed}
 use Rattle.sender.specs.declared.Front.{Front}
 use Rattle.sender.specs.declared.Sender.{Sender}
 use Rattle.sender.specs.declared.Ends.{Ends}
+use Rattle.sender.specs.declared.Loaded.{Loaded}
+use Rattle.sender.specs.declared.Framed.{Framed}
 
 -- ---- what the checks of a frame establish: for its rows, and for the whole of it
 pub record Ready (p : ℕ) (s : Front) (room : ℕ) : Type 0 where
@@ -70,6 +75,15 @@ pub record Going (g : Settings) (s : Sender) (room size : ℕ) : Type 0 where
   pub starts : strayed s ≡ false
   pub right : miscounted g.p (kept_of s) ≡ false
   pub fit : Fit g (front_of s) room size
+
+-- what an answer says: a refused call gives the state as it came, and no packets
+abbrev pub loaded_in : Sender → Result Sender Refusal → Loaded
+loaded_in s (Ok t) = record { number = 0; next = t }
+loaded_in s (Err r) = record { number = number_of r; next = s }
+
+abbrev pub framed_in : Sender → Result Framed Refusal → Framed
+framed_in s (Ok f) = f
+framed_in s (Err r) = record { number = number_of r; next = s; packets = no_three; spares = 0; filler = 0 }
 
 -- the counts w without what a frame has of each queue
 abbrev pub less : Three → Three → List ℕ

@@ -3,6 +3,7 @@
 #![tactic(auto)]
 
 ghost use Rattle.std.specs.Prelude.{◌≡◌, ◌+◌, ◌*◌, ◌%◌, ◌≤◌, ◌<◌, length, get_or};
+ghost use Rattle.refusal.specs.Refusal.{number_in};
 ghost use Rattle.laws.specs.Part.{part_of};
 ghost use Rattle.laws.specs.Refuse.{refused_with};
 ghost use Rattle.laws.specs.Written.{written};
@@ -11,10 +12,11 @@ ghost use Rattle.ring.specs.Ring.{around};
 ghost use Rattle.sender.specs.State.{index_of};
 ghost use Rattle.sender.specs.Frame.{end_of, ends_of, next_from, row_at, nulls, frame_packets, frame_bytes};
 ghost use Rattle.sender.specs.Rings.{front_of, unrolled, fresh_rings, strayed, ring_load_for, ring_store_for, ring_frame_tests, ring_framed, ring_frame_for, ring_frame_out};
-ghost use Rattle.sender.specs.Private.{Ready, faulty, Shape, unit_tests, no_room, Going, less, on_from};
+ghost use Rattle.sender.specs.Private.{Ready, faulty, Shape, unit_tests, no_room, loaded_in, framed_in, less, on_from};
 
 use hand::{Settings, Three};
 use queue::Queue;
+use refusal::Refusal;
 use row::Out;
 
 // 01's part of the state, as its definitions have it: the three queues, whose turn it is to get a spare, and the next continuity index of
@@ -71,18 +73,10 @@ pub struct Ends {
 fn next_state(e: Ends, turn: usize) -> Front
     ensures { result ≡ next_from e turn }
 {
-    let a = e.a;
-    let b = e.b;
-    let c = e.c;
-    let qa = a.q;
-    let qb = b.q;
-    let qc = c.q;
-    let q = [qa, qb, qc];
-    let index = [a.index, b.index, c.index, e.index];
     Front {
-        q: q,
-        turn: turn,
-        index: index,
+        q: [e.a.q, e.b.q, e.c.q],
+        turn,
+        index: [e.a.index, e.b.index, e.c.index, e.index],
     }
 }
 
@@ -135,10 +129,11 @@ fn put_in(unit: &[u8], store: &mut [u8], id: usize, at: usize)
 fn three(w: [u16; 3]) -> Three
     ensures { (result.a ≡ get_or w 0 0) × (result.b ≡ get_or w 1 0) × (result.c ≡ get_or w 2 0) }
 {
-    let a = w[0] as usize;
-    let b = w[1] as usize;
-    let c = w[2] as usize;
-    Three { a: a, b: b, c: c }
+    Three {
+        a: usize::from(w[0]),
+        b: usize::from(w[1]),
+        c: usize::from(w[2]),
+    }
 }
 
 // The counts w after a frame that has `got` of each queue.
@@ -146,11 +141,11 @@ fn less(w: Three, got: Three) -> [u16; 3]
     requires { (w.a ≤ 4096) × (w.b ≤ 4096) × (w.c ≤ 4096) × (got.a ≤ w.a) × (got.b ≤ w.b) × (got.c ≤ w.c) }
     ensures { result ≡ less w got }
 {
-    let a = (w.a - got.a) as u16;
-    let b = (w.b - got.b) as u16;
-    let c = (w.c - got.c) as u16;
-    let r = [a, b, c];
-    r
+    [
+        (w.a - got.a) as u16,
+        (w.b - got.b) as u16,
+        (w.c - got.c) as u16,
+    ]
 }
 
 // The starts after a frame that began at these.
@@ -158,32 +153,25 @@ fn on(from: Three, e: Ends) -> [u16; 3]
     requires { (from.a ≤ 4095) × (from.b ≤ 4095) × (from.c ≤ 4095) × (e.a.at ≤ 8190) × (e.b.at ≤ 8190) × (e.c.at ≤ 8190) }
     ensures { result ≡ on_from from e }
 {
-    let a = e.a;
-    let b = e.b;
-    let c = e.c;
-    let x = ((from.a + a.at) % 4096) as u16;
-    let y = ((from.b + b.at) % 4096) as u16;
-    let z = ((from.c + c.at) % 4096) as u16;
-    let r = [x, y, z];
-    r
+    [
+        ((from.a + e.a.at) % 4096) as u16,
+        ((from.b + e.b.at) % 4096) as u16,
+        ((from.c + e.c.at) % 4096) as u16,
+    ]
 }
 
 impl Sender {
     // No unit, nothing waits, turn 0, indexes 0, starts 0.
+    #[tactic(auto, unfolding(crate::specs::Rings::fresh_rings, crate::specs::Kept::fresh_kept, crate::specs::State::fresh))]
     pub fn fresh() -> Sender
         ensures { result ≡ fresh_rings }
     {
-        let a = Queue::fresh();
-        let q = [a, a, a];
-        let index = [0u8; 4];
-        let waiting = [0u16; 3];
-        let start = [0u16; 3];
         Sender {
-            q: q,
+            q: [Queue::fresh(); 3],
             turn: 0,
-            index: index,
-            waiting: waiting,
-            start: start,
+            index: [0; 4],
+            waiting: [0; 3],
+            start: [0; 3],
         }
     }
 
@@ -233,33 +221,31 @@ impl Sender {
         7 < index[3]
     }
 
-    // Why a unit of n bytes is refused before the room of its queue is looked at; 0 where it is not.
-    fn load_number(self, settings: Settings, id: usize, n: usize, room: usize) -> u32
-        ensures { result ≡ refused_with (unit_tests settings self id n room) }
+    // Whether a unit of n bytes is refused before the room of its queue is looked at.
+    fn load_check(self, settings: Settings, id: usize, n: usize, room: usize) -> Result<(), Refusal>
+        ensures { number_in result ≡ refused_with (unit_tests settings self id n room) }
     {
-        let p = settings.p;
-        if settings.check() != 0 {
-            return 13;
+        settings.check()?;
+        if self.is_faulty(settings.p as u8) {
+            return Err(Refusal::BadState);
         }
-        if self.is_faulty(p as u8) {
-            return 17;
+        if room != 12288 || 65528 < n {
+            return Err(Refusal::Size);
         }
-        if room != 12288 {
-            return 1;
+        if n == 0 || 4096 < n || 2 < id {
+            return Err(Refusal::BadUnit);
         }
-        if 65528 < n {
-            return 1;
+        Ok(())
+    }
+
+    // The answer to a unit that is refused.
+    fn keeping(self, why: Refusal) -> Loaded
+        ensures { result ≡ loaded_in self (Err why) }
+    {
+        Loaded {
+            number: why.number(),
+            next: self,
         }
-        if n == 0 {
-            return 14;
-        }
-        if 4096 < n {
-            return 14;
-        }
-        if 2 < id {
-            return 14;
-        }
-        0
     }
 
     // A unit enters queue id, or is refused and nothing changes. Refused with 13: settings. With 17: the state. With 1: a store of
@@ -269,21 +255,14 @@ impl Sender {
         ensures memory { store.new ≡ ring_store_for settings self id unit.now store.old }
     {
         let n = unit.len();
-        let number = self.load_number(settings, id, n, store.len());
-        if number != 0 {
-            return Loaded {
-                number: number,
-                next: self,
-            };
+        if let Err(why) = self.load_check(settings, id, n, store.len()) {
+            return self.keeping(why);
         }
         let mut entered = self;
         let q = entered.q[id];
         let bytes = q.unsent();
         if is_full(q, n, bytes) {
-            return Loaded {
-                number: 15,
-                next: self,
-            };
+            return self.keeping(Refusal::NoRoom);
         }
         let start = entered.start[id];
         put_in(unit, store, id, behind(start, bytes));
@@ -297,24 +276,18 @@ impl Sender {
         }
     }
 
-    // Why a frame is refused; 0 where it is not.
-    fn frame_number(self, settings: Settings, room: usize, size: usize) -> u32
-        ensures { result ≡ refused_with (ring_frame_tests settings self room size) }
+    // Whether a frame is refused.
+    fn frame_check(self, settings: Settings, room: usize, size: usize) -> Result<(), Refusal>
+        ensures { number_in result ≡ refused_with (ring_frame_tests settings self room size) }
     {
-        let p = settings.p;
-        if settings.check() != 0 {
-            return 13;
+        settings.check()?;
+        if self.is_faulty(settings.p as u8) {
+            return Err(Refusal::BadState);
         }
-        if self.is_faulty(p as u8) {
-            return 17;
+        if room != 12288 || size < settings.n * (settings.p + 3) {
+            return Err(Refusal::Size);
         }
-        if room != 12288 {
-            return 1;
-        }
-        if size < settings.n * (p + 3) {
-            return 1;
-        }
-        0
+        Ok(())
     }
 
     // n packets of queue id, from index at of the frame on.
@@ -373,38 +346,33 @@ impl Sender {
         }
     }
 
-    // A frame, where the checks have passed. It is handed out by the stored counts.
-    fn run(self, settings: Settings, store: &[u8], out: &mut [u8]) -> Framed
-        requires { Going settings self (length store.now) (length out.old) }
-        ensures value { result ≡ ring_framed settings self }
-        ensures out_after { out.new ≡ written out.old 0 (frame_bytes settings (front_of self) (unrolled self.start store.now)) }
+    // The frame, handed out by the stored counts; or why there is none, and nothing is written.
+    fn try_frame(self, settings: Settings, store: &[u8], out: &mut [u8]) -> Result<Framed, Refusal>
+        ensures answer { framed_in self result ≡ ring_frame_for settings self store.now out.old }
+        ensures output { out.new ≡ ring_frame_out settings self store.now out.old }
     {
-        let p = settings.p as u8;
+        self.frame_check(settings, store.len(), out.len())?;
         shape(self);
-        let stored = self.waiting;
-        let start = self.start;
-        let w = three(stored);
-        let from = three(start);
-        let h = settings.hand_out(w, self.turn);
-        let got = h.packets;
-        let e = self.write_rows(p, got, h.filler, store, out);
-        let f = next_state(e, h.turn);
-        let q = f.q;
-        let index = f.index;
+        let w = three(self.waiting);
+        let h = settings.hand_out(w, self.turn)?;
+        let e = self.write_rows(settings.p as u8, h.packets, h.filler, store, out);
+        let Front { q, turn, index } = next_state(e, h.turn);
+        let waiting = less(w, h.packets);
+        let start = on(three(self.start), e);
         let next = Sender {
-            q: q,
-            turn: f.turn,
-            index: index,
-            waiting: less(w, got),
-            start: on(from, e),
+            q,
+            turn,
+            index,
+            waiting,
+            start,
         };
-        Framed {
+        Ok(Framed {
             number: 0,
-            next: next,
-            packets: got,
+            next,
+            packets: h.packets,
             spares: h.spares,
             filler: h.filler,
-        }
+        })
     }
 
     // Writes a frame to the front of the output, or is refused and nothing changes; the store is only read. Refused with 13: settings. With
@@ -413,17 +381,15 @@ impl Sender {
         ensures answer { result ≡ ring_frame_for settings self store.now out.old }
         ensures output { out.new ≡ ring_frame_out settings self store.now out.old }
     {
-        let number = self.frame_number(settings, store.len(), out.len());
-        if number != 0 {
-            let none = Three { a: 0, b: 0, c: 0 };
-            return Framed {
-                number: number,
+        match self.try_frame(settings, store, out) {
+            Ok(framed) => framed,
+            Err(why) => Framed {
+                number: why.number(),
                 next: self,
-                packets: none,
+                packets: Three::default(),
                 spares: 0,
                 filler: 0,
-            };
+            },
         }
-        self.run(settings, store, out)
     }
 }

@@ -3,8 +3,7 @@
 
 use cases::case;
 use cases::case::Taken;
-use receiver::{Delivered, Receiver, Told};
-use refusal::Refusal;
+use receiver::{Receiver, Told};
 use stream_sending::Acted;
 use stream_values::Run;
 
@@ -13,51 +12,19 @@ const FRAME: usize = 8190;
 
 const UNITS: usize = 32768;
 
-// What a packet brought, as the values of an answer.
-#[derive(Clone, Copy)]
-struct Heard {
-    number: u32,
-    given: bool,
-    id: u8,
-    length: usize,
-}
-
-fn nothing(number: u32) -> Heard {
-    Heard {
-        number,
-        given: false,
-        id: 0,
-        length: 0,
-    }
-}
-
-fn values_of(answer: Result<Option<Delivered>, Refusal>) -> Heard {
-    match answer {
-        Ok(None) => nothing(0),
-        Ok(Some(unit)) => Heard {
-            number: 0,
-            given: true,
-            id: unit.id,
-            length: unit.length,
-        },
-        Err(why) => nothing(why.number()),
-    }
-}
-
 // The five values of a packet of call 36, which stood so in the body.
 fn tell(r: Run, t: Told, s: Taken) -> Run {
-    let a = t.answer;
-    let h = values_of(a);
-    let said = stream_values::begin_step(r.said, h.number);
-    let said = saying::three(said, h.given as u64, h.id as u64, h.length as u64);
-    let said = saying::value(said, t.dropped as u64);
-    let sender = r.sender;
-    let receiver = t.next;
+    let (number, delivered) = saying::numbered(t.answer);
+    let said = stream_values::begin_step(r.said, number);
+    let said = match delivered {
+        Some(unit) => saying::three(said, 1, u64::from(unit.id), unit.length as u64),
+        None => saying::three(said, 0, 0, 0),
+    };
     Run {
         at: s.next,
-        said,
-        sender,
-        receiver,
+        said: saying::value(said, t.dropped as u64),
+        sender: r.sender,
+        receiver: t.next,
     }
 }
 
@@ -91,25 +58,20 @@ fn weight(id: u8, length: usize) -> u64 {
     }
 }
 
-fn counted(g: Gathered, h: Heard, dropped: usize, receiver: Receiver) -> Gathered {
-    Gathered {
-        units: std::num::wrapping_add_u64(g.units, h.given as u64),
-        sum: std::num::wrapping_add_u64(g.sum, weight(h.id, h.length)),
-        end: case::past(g.end, h.length),
-        dropped: std::num::wrapping_add_u64(g.dropped, dropped as u64),
-        receiver,
-    }
-}
-
 // One packet to the receiver; a unit that it completes goes behind the bytes gathered.
 fn hear_one(g: Gathered, p: usize, packet: &[u8], buffer: &mut [u8], all: &mut [u8]) -> Gathered {
-    let before = g.receiver;
-    let told = before.step(p, buffer, packet);
-    let a = told.answer;
-    let h = values_of(a);
-    moves::copy(part(buffer, usize::from(h.id % 4) * 4096, h.length), all, g.end);
-    let after = told.next;
-    counted(g, h, told.dropped, after)
+    let told = g.receiver.step(p, buffer, packet);
+    let mut next = g;
+    next.receiver = told.next;
+    next.dropped = g.dropped.wrapping_add(told.dropped as u64);
+    if let Ok(Some(unit)) = told.answer {
+        let at = usize::from(unit.id % 4) * 4096;
+        moves::copy(part(buffer, at, unit.length), all, g.end);
+        next.units = g.units.wrapping_add(1);
+        next.sum = g.sum.wrapping_add(weight(unit.id, unit.length));
+        next.end = case::past(g.end, unit.length);
+    }
+    next
 }
 
 // The n packets of a frame, in order.

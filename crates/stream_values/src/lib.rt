@@ -66,9 +66,12 @@ fn four(said: Said, a: u16, b: u16, c: u16, d: u16) -> Said {
     saying::value(said, d as u64)
 }
 
-fn tell_left(said: Said, l: [u16; 8]) -> Said {
-    let said = four(said, l[0], l[1], l[2], l[3]);
-    four(said, l[4], l[5], l[6], l[7])
+fn tell_left(said: Said, left: [u16; 8]) -> Said {
+    let mut next = said;
+    for x in left {
+        next = saying::value(next, u64::from(x));
+    }
+    next
 }
 
 // A queue, with the count that is stored for it and the start of its ring.
@@ -79,20 +82,18 @@ fn tell_queue(said: Said, q: Queue, waiting: u16, start: u16) -> Said {
 }
 
 fn tell_queues(said: Said, q: [Queue; 3], w: [u16; 3], start: [u16; 3]) -> Said {
-    let a = q[0];
-    let b = q[1];
-    let c = q[2];
+    let [a, b, c] = q;
     let said = tell_queue(said, a, w[0], start[0]);
     let said = tell_queue(said, b, w[1], start[1]);
     tell_queue(said, c, w[2], start[2])
 }
 
-fn wide(x: u8) -> u16 {
-    x as u16
-}
-
-fn tell_index(said: Said, i: [u8; 4]) -> Said {
-    four(said, wide(i[0]), wide(i[1]), wide(i[2]), wide(i[3]))
+fn tell_index(said: Said, index: [u8; 4]) -> Said {
+    let mut next = said;
+    for x in index {
+        next = saying::value(next, u64::from(x));
+    }
+    next
 }
 
 fn tell_sender(said: Said, s: Sender) -> Said {

@@ -1,32 +1,31 @@
 -- `hand::Settings::hand_out` meets its contract. Assumes nothing.
-use borrow.Author.Rules.{rules}
+use mathlib.Core.Path.{refl}
+use Rattle.std.proofs.lemmas.Result.{err_from_is_err_and}
+use Rattle.refusal.specs.Refusal.{number_of}
+use Rattle.refusal.proofs.Numbers.{number_ne0}
 use Rattle.hand.proofs.Allowed.{allowed_by}
-use Rattle.hand.proofs.Answer.{hand_refused, sum_in, met_in, got_two, got_three, met_two, met_three, hand_done}
+use Rattle.hand.proofs.Answer.{hand_refused, sum_in, met_in, got_fits, met_fits, hand_done}
 use Rattle.hand.proofs.Settings.hand_out.Goals as goal
 
-pub returns-then-number-ne0 : goal.returns-then-number-ne0
-returns-then-number-ne0 c = search hand_refused
+pub returns-in_err-check : goal.returns-in_err-check
+returns-in_err-check c =
+    let p = err_from_is_err_and c.from_residual.result c.from_residual.ensures.1 in
+    rw (p.1, p.2) (hand_refused c.args.self c.args.waiting c.args.turn (number_of c.in_err-check.field-0.0) c.in_err-check.ensures (number_ne0 _))
 
-pub fill-g-requires : goal.fill-g-requires
-fill-g-requires c = (allowed_by _ _ c.check-number.ensures c.if-number-ne0.false).shares
+pub plan-g-requires : goal.plan-g-requires
+plan-g-requires c = (allowed_by _ _ c.in_ok-check.ensures refl).shares
 
-pub overflow_add-sum : goal.overflow_add-sum
-overflow_add-sum c = search (rules, got_two)
+pub sum-sum-requires : goal.sum-sum-requires
+sum-sum-requires c = got_fits _ _ _ c.in_ok-check.ensures _ c.low-met.ensures _ c.plan-g.ensures
 
-pub overflow_add-sum-2 : goal.overflow_add-sum-2
-overflow_add-sum-2 c = search (rules, got_three)
-
-pub returns : goal.returns
-returns c = search hand_done
-
-pub overflow_add-result : goal.overflow_add-result
-overflow_add-result c = search (rules, met_two)
-
-pub overflow_add-result-2 : goal.overflow_add-result-2
-overflow_add-result-2 c = search (rules, met_three)
+pub sum-requires : goal.sum-requires
+sum-requires c = met_fits _ _ _ c.in_ok-check.ensures _ c.low-met.ensures _ c.plan-g.ensures
 
 pub overflow_sub-result : goal.overflow_sub-result
-overflow_sub-result c = search met_in
+overflow_sub-result c = rw (c.sum-sum.ensures, c.sum.ensures) (met_in _ _ _ c.in_ok-check.ensures _ c.low-met.ensures _ c.plan-g.ensures)
 
 pub overflow_sub-result-2 : goal.overflow_sub-result-2
-overflow_sub-result-2 c = search sum_in
+overflow_sub-result-2 c = rw c.sum-sum.ensures (sum_in _ _ _ c.in_ok-check.ensures _ c.low-met.ensures _ c.plan-g.ensures)
+
+pub returns : goal.returns
+returns c = hand_done _ _ _ c.in_ok-check.ensures _ c.low-met.ensures _ c.plan-g.ensures _ _ c.sum-sum.ensures c.sum.ensures
