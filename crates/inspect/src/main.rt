@@ -36,7 +36,7 @@ fn show(
     let _ = print(rt, &broken, shown.broken);
     let is_written = print(rt, &line, shown.line).is_ok();
     let report = shown.report;
-    if !is_written || report.walk.refused.is_some() {
+    if !is_written || report.walk.number != 0 {
         return ControlFlow::Break(report);
     }
     ControlFlow::Continue((report, shown.taken))
@@ -120,7 +120,7 @@ fn begin(input: &mut impl Read) -> io::Result<Report> {
 fn read_through(rt: &impl Print, input: &mut impl Read) -> io::Result<Report> {
     let mut work = [0u8; ENTRY];
     let report = begin(input)?;
-    if report.walk.refused.is_some() {
+    if report.walk.number != 0 {
         return Ok(report);
     }
     read_all(rt, input, report, &mut work)

@@ -13,12 +13,6 @@ use description::{Description, Lengths};
 use mdi::Answer;
 use record::Record;
 
-fn wide(x: u16) -> u64
-    ensures { (result ≡ x) × (result < 65536) }
-{
-    x as u64
-}
-
 // The length of stream i of count; nothing where there is no such stream.
 fn put_length(count: usize, i: usize, x: Lengths, out: &mut [u8], at: usize) -> usize
     requires { at + 21 ≤ length out.old }
@@ -27,7 +21,7 @@ fn put_length(count: usize, i: usize, x: Lengths, out: &mut [u8], at: usize) -> 
     if count <= i {
         return at;
     }
-    line_text::named(b" ", wide(x.a) + wide(x.b), out, at)
+    line_text::named(b" ", u64::from(x.a) + u64::from(x.b), out, at)
 }
 
 fn put_lengths(d: Description, out: &mut [u8], at: usize) -> usize

@@ -14,7 +14,7 @@ use Rattle.items.specs.Items.{Item, Found, none, some, cut_of, find, value_of}
 use Rattle.mdi_spots.specs.Names.{dlfc, fac, sdc, sdci, robm, tist}
 use Rattle.mdi_spots.specs.Table.{name_of}
 use Rattle.mdi.specs.Refusals.{tests_for}
-pub use Rattle.mdi.specs.declared.Answer.{Answer}
+use Rattle.mdi.specs.declared.Answer.{Answer}
 use Rattle.refusal.specs.Refusal.{number_of}
 use Rattle.refusal.specs.declared.Refused.{Refused}
 

@@ -1,4 +1,3 @@
 pub mod Prints
 pub mod Ways
 pub mod Settled
-pub mod Apart

@@ -7,13 +7,15 @@ use Rattle.cutting.specs.Sign.{Sign, More, Wrong}
 use Rattle.cutting.proofs.Blocks.{feed_feed, feed_none, whole_file}
 use Rattle.mdi.specs.Reading.{read_for}
 use Rattle.recording.proofs.Answers.{open_empty, open_other, open_done}
-use Rattle.walk.specs.State.{Ended, Fed, Walk}
+use Rattle.walk.specs.declared.Ended.{Ended}
+use Rattle.walk.specs.declared.Walk.{Walk}
+use Rattle.walk.specs.State.{Fed}
 use Rattle.walk.specs.Entries.{entry_says}
 use Rattle.walk.specs.Walk as walks
 use Rattle.walk.specs.Whole.{packets_of}
 use Rattle.walk.proofs.Entries.{says_short}
 use Rattle.walk.proofs.Blocks.{Stands, Comes, held, whole, wrong, comes, split, progress}
-use Rattle.report.specs.State.{Seen}
+use Rattle.report.specs.declared.Seen.{Seen}
 use Rattle.report.specs.Report.{break_of, line_of, seen_after, no_seen, begun_for, is_whole, answer_in, break_for, line_for, seen_for, shown_for, summary_of, refusal_of, summary_for, refusal_for}
 use Rattle.report.specs.Run.{text_of, seen_of, closing, body_of, report_of, State, started, once, handed, ran, ended}
 

@@ -1,5 +1,6 @@
 -- The ways through the code, in its own words. Assumes nothing.
 use Rattle.std.proofs.Common.{◌≡◌, ℕ, Bool, true, false, not, eqb, List, length, sym, refl, ap, ◌∙◌, subst, ap₂, zero-add, eq-eqb, ne_eqb}
+use borrow.Author.Tests.{not-true, not-false}
 use Rattle.laws.specs.Written.{written}
 use Rattle.laws.proofs.Written.{written_none}
 use Rattle.calendar.specs.Dates.{date_of}
@@ -16,15 +17,20 @@ use Rattle.stamp_text.specs.Stamp.{since}
 use Rattle.tally.specs.Tally.{no_tally, counted_for, up}
 use Rattle.tally.specs.declared.Tally.{Tally}
 use Rattle.record.specs.Records.{no_record}
+use Rattle.record.specs.declared.Record.{Record}
 use Rattle.walk.specs.Walk as walks
-use Rattle.walk.specs.State.{Ended, Fed, Walk}
-use Rattle.report.specs.State.{Seen, Report, Shown}
+use Rattle.walk.specs.declared.Ended.{Ended}
+use Rattle.walk.specs.declared.Walk.{Walk}
+use Rattle.walk.specs.State.{Fed}
+use Rattle.report.specs.declared.Seen.{Seen}
+use Rattle.report.specs.declared.Report.{Report}
+use Rattle.report.specs.declared.Shown.{Shown}
 use Rattle.report.specs.Report.{break_of, line_of, seen_after, no_seen, begun_for, is_whole, answer_in, break_for, line_for, seen_for, shown_for, summary_of, refusal_of, summary_for, refusal_for, closed_for}
 
-pub begin_done : (first : List ℕ) (w : Walk) (t : Tally) → w ≡ walks.begun_for first → t ≡ no_tally
-    → record { walk = w; seen = record { tally = t; any = false; last = no_record } } ≡ begun_for first
+pub begin_done : (first : List ℕ) (w : Walk) (t : Tally) (l : Record) → w ≡ walks.begun_for first → t ≡ no_tally → l ≡ no_record
+    → record { walk = w; seen = record { tally = t; any = false; last = l } } ≡ begun_for first
 unfolding begun_for no_seen
-begin_done first w t e f = rw (e, f) refl
+begin_done first w t l e f g = rw (e, f, g) refl
 
 -- ---- a break
 
@@ -33,13 +39,13 @@ module _ (s : Seen) (a : Answer) where
   unfolding break_of
   break_refused d h = rw (ne_eqb a.number 0 h) (puts_none d 0)
 
-  pub break_first : (d : List ℕ) → a.number ≡ 0 → s.any ≡ false → Puts d 0 (break_of s a) d 0
+  pub break_first : (d : List ℕ) → a.number ≡ 0 → not s.any ≡ true → Puts d 0 (break_of s a) d 0
   unfolding break_of
-  break_first d h l = rw (eq-eqb a.number 0 h, l) (puts_none d 0)
+  break_first d h l = rw (eq-eqb a.number 0 h, not-true s.any l) (puts_none d 0)
 
-  pub break_there : (d e : List ℕ) (n : ℕ) → a.number ≡ 0 → s.any ≡ true → Puts d 0 (break_text s.last a.content) e n → Puts d 0 (break_of s a) e n
+  pub break_there : (d e : List ℕ) (n : ℕ) → a.number ≡ 0 → not s.any ≡ false → Puts d 0 (break_text s.last a.content) e n → Puts d 0 (break_of s a) e n
   unfolding break_of
-  break_there d e n h l p = rw (eq-eqb a.number 0 h, l) p
+  break_there d e n h l p = rw (eq-eqb a.number 0 h, not-false s.any l) p
 
   -- ---- what is seen after
 

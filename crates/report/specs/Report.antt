@@ -11,8 +11,10 @@ use Rattle.record.specs.Records.{no_record}
 use Rattle.stamp_text.specs.Stamp.{since}
 use Rattle.tally.specs.Tally.{no_tally, counted_for, up}
 use Rattle.walk.specs.Walk as walks
-use Rattle.walk.specs.State.{Ended}
-use Rattle.report.specs.State.{Seen, Report, Shown}
+use Rattle.walk.specs.declared.Ended.{Ended}
+use Rattle.report.specs.declared.Seen.{Seen}
+use Rattle.report.specs.declared.Report.{Report}
+use Rattle.report.specs.declared.Shown.{Shown}
 use Rattle.report.specs.declared.Closed.{Closed}
 
 -- ---- one packet, by what reading it gave

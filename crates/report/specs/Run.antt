@@ -8,7 +8,8 @@ use Rattle.recording.specs.Recording.{opened_for}
 use Rattle.walk.specs.Entries.{entry_says}
 use Rattle.walk.specs.Walk as walks
 use Rattle.walk.specs.Whole.{packets_of}
-use Rattle.report.specs.State.{Seen, Report}
+use Rattle.report.specs.declared.Seen.{Seen}
+use Rattle.report.specs.declared.Report.{Report}
 use Rattle.report.specs.Report.{break_of, line_of, seen_after, no_seen, begun_for, break_for, line_for, shown_for, summary_of, refusal_of, summary_for, refusal_for}
 
 -- ---- a whole recording

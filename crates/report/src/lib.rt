@@ -6,22 +6,21 @@ ghost use Rattle.std.specs.Prelude.{◌≡◌, length};
 ghost use Rattle.laws.specs.Written.{written};
 ghost use Rattle.mdi.specs.Reading.{read_for};
 ghost use Rattle.moves.specs.Moves.{Puts};
-ghost use Rattle.walk.specs.State.{walk_in, ended_in};
 ghost use Rattle.walk.specs.Walk.{work_for};
-ghost use Rattle.report.specs.State.{seen_in, report_in, shown_in};
 ghost use Rattle.report.specs.Report.{begun_for, break_of, line_of, seen_after, break_for, line_for, shown_for, refusal_of, summary_for, refusal_for, closed_for};
 
 use mdi::Answer;
 use record::Record;
-use refusal::Refused;
 use tally::Tally;
-use walk::Walk;
+use walk::{Ended, Walk};
 
-// The counts so far, and the last packet that was read.
+// The counts so far, and the last packet that was read, where there is any.
+// Kept: a flag beside `last`, since `feed` and `end` take both whatever they are: a narrower type would ask more of callers.
 #[derive(Clone, Copy)]
 pub struct Seen {
     pub tally: Tally,
-    pub last: Option<Record>,
+    pub any: bool,
+    pub last: Record,
 }
 
 #[derive(Clone, Copy)]
@@ -57,13 +56,14 @@ struct Told {
 
 // Begins with the first byte of the recording, or none where it has none.
 pub fn begin(first: &[u8]) -> Report
-    ensures { report_in result ≡ begun_for first.now }
+    ensures { result ≡ begun_for first.now }
 {
     Report {
         walk: walk::begin(first),
         seen: Seen {
             tally: tally::none(),
-            last: None,
+            any: false,
+            last: record::none(),
         },
     }
 }
@@ -77,10 +77,10 @@ pub fn feed(
     broken: &mut [u8; 1024],
     line: &mut [u8; 1024],
 ) -> Shown
-    ensures answer { shown_in result ≡ shown_for (report_in r) work.old block.now }
-    ensures held { work.new ≡ work_for (walk_in r.walk) work.old block.now }
-    ensures between { broken.new ≡ written broken.old 0 (break_for (report_in r) work.old block.now) }
-    ensures text { line.new ≡ written line.old 0 (line_for (report_in r) work.old block.now) }
+    ensures answer { result ≡ shown_for r work.old block.now }
+    ensures held { work.new ≡ work_for r.walk work.old block.now }
+    ensures between { broken.new ≡ written broken.old 0 (break_for r work.old block.now) }
+    ensures text { line.new ≡ written line.old 0 (line_for r work.old block.now) }
 {
     let f = walk::feed(r.walk, work, block);
     match f.packet {
@@ -110,9 +110,9 @@ pub fn feed(
 
 // No byte comes any more: the summary goes to the front of `summary`, and the line of a refusal to the front of `refusal`.
 pub fn end(r: Report, summary: &mut [u8; 1024], refusal: &mut [u8; 1024]) -> Closed
-    ensures answer { result ≡ closed_for (report_in r) }
-    ensures text { summary.new ≡ written summary.old 0 (summary_for (report_in r)) }
-    ensures reason { refusal.new ≡ written refusal.old 0 (refusal_for (report_in r)) }
+    ensures answer { result ≡ closed_for r }
+    ensures text { summary.new ≡ written summary.old 0 (summary_for r) }
+    ensures reason { refusal.new ≡ written refusal.old 0 (refusal_for r) }
 {
     Closed {
         summary: summary_text::summary(r.seen.tally, summary),
@@ -120,20 +120,20 @@ pub fn end(r: Report, summary: &mut [u8; 1024], refusal: &mut [u8; 1024]) -> Clo
     }
 }
 
-fn put_refusal(ended: Result<(), Refused>, out: &mut [u8; 1024]) -> usize
-    ensures { Puts out.old 0 (refusal_of (ended_in ended)) out.new result }
+fn put_refusal(e: Ended, out: &mut [u8; 1024]) -> usize
+    ensures { Puts out.old 0 (refusal_of e) out.new result }
 {
-    match ended {
-        Ok(()) => 0,
-        Err(refused) => inspect_text::refusal(refused.why.number(), refused.place, out),
+    if e.number == 0 {
+        return 0;
     }
+    inspect_text::refusal(e.number, e.place, out)
 }
 
 // One packet more, whose entry stands at an offset of the file.
 fn saw(s: Seen, at: u64, packet: &[u8], broken: &mut [u8; 1024], line: &mut [u8; 1024]) -> Told
-    ensures after { seen_in result.seen ≡ seen_after (seen_in s) (read_for packet.now) }
-    ensures between { Puts broken.old 0 (break_of (seen_in s) (read_for packet.now)) broken.new result.broken }
-    ensures text { Puts line.old 0 (line_of (seen_in s) at (read_for packet.now)) line.new result.line }
+    ensures after { result.seen ≡ seen_after s (read_for packet.now) }
+    ensures between { Puts broken.old 0 (break_of s (read_for packet.now)) broken.new result.broken }
+    ensures text { Puts line.old 0 (line_of s at (read_for packet.now)) line.new result.line }
 {
     let a = Answer::from(mdi::read(packet));
     let n = inspect_text::line(s.tally.packets.wrapping_add(1), at, a, line);
@@ -147,27 +147,26 @@ fn saw(s: Seen, at: u64, packet: &[u8], broken: &mut [u8; 1024], line: &mut [u8;
 
 // The line of a break before this packet, where it was read and one was before.
 fn put_break(s: Seen, a: Answer, out: &mut [u8; 1024]) -> usize
-    ensures { Puts out.old 0 (break_of (seen_in s) a) out.new result }
+    ensures { Puts out.old 0 (break_of s a) out.new result }
 {
-    if a.number != 0 {
+    if a.number != 0 || !s.any {
         return 0;
     }
-    match s.last {
-        None => 0,
-        Some(last) => inspect_text::broken(last, a.content, out),
-    }
+    inspect_text::broken(s.last, a.content, out)
 }
 
 // n is the length of the line of a break.
 fn after(s: Seen, a: Answer, n: usize) -> Seen
-    requires { n ≡ length (break_of (seen_in s) a) }
-    ensures { seen_in result ≡ seen_after (seen_in s) a }
+    requires { n ≡ length (break_of s a) }
+    ensures { result ≡ seen_after s a }
 {
     let tally = tally::count(s.tally, a, n != 0);
-    let last = if a.number == 0 {
-        Some(a.content)
-    } else {
-        s.last
-    };
-    Seen { tally, last }
+    if a.number != 0 {
+        return Seen { tally, ..s };
+    }
+    Seen {
+        tally,
+        any: true,
+        last: a.content,
+    }
 }

@@ -12,7 +12,8 @@ use Rattle.moves.specs.Moves.{placed}
 use Rattle.recording.specs.Recording.{step_for, stated_at}
 use Rattle.recording.specs.Answers.{Step, Entry, End, Refused}
 use Rattle.recording.proofs.Answers.{entry_means}
-use Rattle.walk.specs.State.{Walk, Fed}
+use Rattle.walk.specs.declared.Walk.{Walk}
+use Rattle.walk.specs.State.{Fed}
 use Rattle.walk.specs.Entries.{sign_of, entry_says, entry_need}
 use Rattle.walk.specs.Walk.{held_of, taken_for, grown_for, met_by, fed_by, fed_for, work_for, packet_at}
 use Rattle.walk.proofs.Entries.{says_short, begun_ways, need_short, need_rest, need_most, number_front, entry_steady, entry_real}

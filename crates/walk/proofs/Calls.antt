@@ -1,5 +1,5 @@
 -- What the calls answer and leave, by the way taken. Assumes nothing.
-use Rattle.std.proofs.Common.{◌≡◌, Option, Some, None, ⊎_elim, ℕ, ◌+◌, ◌-◌, ◌%◌, ◌^◌, ◌<◌, ◌≤◌, min, Bool, true, false, ltb, List, [], ◌++◌, length, take, drop, sym, refl, ap, ◌∙◌, ap₂, append_assoc, arith, lit≤, length-append, length-take-le, take_all, take_at, ltb-false, ltb-true, le-ltb, lt-ltb, eq-eqb, ne_eqb, le-leb}
+use Rattle.std.proofs.Common.{◌≡◌, ⊎_elim, ℕ, ◌+◌, ◌-◌, ◌%◌, ◌^◌, ◌<◌, ◌≤◌, min, Bool, true, false, ltb, List, [], ◌++◌, length, take, drop, sym, refl, ap, ◌∙◌, ap₂, append_assoc, arith, lit≤, length-append, length-take-le, take_all, take_at, ltb-false, ltb-true, le-ltb, lt-ltb, eq-eqb, ne_eqb, le-leb}
 use Rattle.laws.specs.Big.{number_at}
 use Rattle.laws.specs.Pick.{pick}
 use Rattle.laws.specs.Written.{written}
@@ -11,10 +11,10 @@ use Rattle.recording.specs.Answers.{Opened, Step, Entry, End, Refused}
 use Rattle.refusal.specs.declared.Refusal.{Refusal}
 use Rattle.refusal.specs.declared.Refusal.TheVariants.{CutOff}
 use Rattle.refusal.specs.Refusal.{number_of}
-use Rattle.refusal.proofs.Numbers.{number_ne0, number_inj}
+use Rattle.refusal.proofs.Numbers.{number_inj}
 use Rattle.cutting.proofs.Needs.{lt_or_le}
-use Rattle.walk.specs.declared.Walk as walk
-use Rattle.walk.specs.State.{Walk, Fed, met_in, walk_in}
+use Rattle.walk.specs.declared.Walk.{Walk}
+use Rattle.walk.specs.State.{Fed}
 use Rattle.walk.specs.Entries.{entry_need}
 use Rattle.walk.specs.Walk.{begun_for, held_of, taken_for, grown_for, met_by, fed_by, fed_for, work_for, packet_at, ended_for}
 use Rattle.walk.proofs.Entries.{need_short, need_rest, need_long, need_most}
@@ -25,18 +25,18 @@ begin_done first o e = rw e refl
 
 -- ---- end
 
-module _ (w : walk.Walk) where
-  pub end_refused : (r : Refusal) → w.refused ≡ Some r → record { number = number_of r; place = 0 } ≡ ended_for (walk_in w)
+module _ (w : Walk) where
+  pub end_refused : (w.number ≡ 0 → ⊥) → record { number = w.number; place = 0 } ≡ ended_for w
   unfolding ended_for
-  end_refused r h = rw h (simp (ne_eqb _ _ (number_ne0 r)))
+  end_refused h = simp (ne_eqb _ _ h)
 
-  pub end_cut : w.refused ≡ None → (w.have ≡ 0 → ⊥) → record { number = 2; place = w.at } ≡ ended_for (walk_in w)
+  pub end_cut : w.number ≡ 0 → (w.have ≡ 0 → ⊥) → record { number = 2; place = w.at } ≡ ended_for w
   unfolding ended_for
-  end_cut h l = rw h (simp (ne_eqb _ _ l))
+  end_cut h l = simp (eq-eqb _ _ h, ne_eqb _ _ l)
 
-  pub end_well : w.refused ≡ None → w.have ≡ 0 → record { number = 0; place = 0 } ≡ ended_for (walk_in w)
+  pub end_well : w.number ≡ 0 → w.have ≡ 0 → record { number = 0; place = 0 } ≡ ended_for w
   unfolding ended_for
-  end_well h l = rw h (simp (eq-eqb _ _ l))
+  end_well h l = simp (eq-eqb _ _ h, eq-eqb _ _ l)
 
 -- ---- met, wanted, packet
 
@@ -47,10 +47,6 @@ met_cut_off = refl
 pub met_other : (r : Refusal) → (r ≡ CutOff → ⊥) → number_of r ≡ met_by (number_of r)
 unfolding met_by
 met_other r h = simp (ne_eqb (number_of r) 2 (λ e. h (number_inj r CutOff e)))
-
--- a refusal met is not 0
-pub met_ne0 : (o : Option Refusal) (r : Refusal) → o ≡ Some r → met_in o ≡ 0 → ⊥
-met_ne0 o r h e = number_ne0 r (sym (ap met_in h) ∙ e)
 
 module _ (h : List ℕ) where
   pub wanted_4 : length h < 4 → (4 ≡ entry_need h) × (4 ≤ 65532)

@@ -4,7 +4,9 @@ use Rattle.laws.specs.Pick.{pick}
 use Rattle.moves.specs.Moves.{placed}
 use Rattle.recording.specs.Recording.{opened_for, step_for}
 use Rattle.recording.specs.Answers.{Step, Entry, End, Refused}
-use Rattle.walk.specs.State.{Walk, Fed, Ended}
+use Rattle.walk.specs.declared.Walk.{Walk}
+use Rattle.walk.specs.declared.Ended.{Ended}
+use Rattle.walk.specs.State.{Fed}
 use Rattle.walk.specs.Entries.{entry_need}
 
 -- the version byte

@@ -8,17 +8,18 @@ ghost use Rattle.moves.specs.Moves.{placed};
 ghost use Rattle.recording.specs.Recording.{step_for};
 ghost use Rattle.refusal.specs.Refusal.{number_of};
 ghost use Rattle.walk.specs.Entries.{entry_need};
-ghost use Rattle.walk.specs.State.{walk_in, fed_in, met_in, ended_in};
+ghost use Rattle.walk.specs.State.{fed_in};
 ghost use Rattle.walk.specs.Walk.{begun_for, met_by, fed_by, taken_for, grown_for, fed_for, work_for, packet_at, ended_for};
 
-use refusal::{Refusal, Refused};
+use refusal::Refusal;
 
-// `at`: the offset in the file of the entry begun, modulo 2^64. `have`: how many of its bytes stand at the front of the work buffer. Once
-// refused a walk takes no more.
+// `number`: the refusal met, 0 while there is none. `at`: the offset in the file of the entry begun, modulo 2^64. `have`: how many of its
+// bytes stand at the front of the work buffer. Once refused a walk takes no more.
+// Kept: `number`, since `feed` and `end` take every number (fed_for, ended_for): a narrower type would ask more of callers.
 // Kept: a count beside the work buffer, since that is lent for each call (no heap, and `work_for` speaks of it at its fixed length).
 #[derive(Clone, Copy)]
 pub struct Walk {
-    pub refused: Option<Refusal>,
+    pub number: u32,
     pub at: u64,
     pub have: usize,
 }
@@ -32,18 +33,26 @@ pub struct Fed {
     pub packet: Option<usize>,
 }
 
+// The end of the walk: the number and place of a refusal, or 0.
+// Kept: a number, since `end` gives that of the walk, whatever it is (ended_for): no Refusal has a number that is none of 01.
+#[derive(Clone, Copy)]
+pub struct Ended {
+    pub number: u32,
+    pub place: u64,
+}
+
 // Begins with the first byte of the file, or none where it has none.
 pub fn begin(first: &[u8]) -> Walk
-    ensures { walk_in result ≡ begun_for first.now }
+    ensures { result ≡ begun_for first.now }
 {
     match recording::open(first) {
         Ok(at) => Walk {
-            refused: None,
+            number: 0,
             at,
             have: 0,
         },
         Err(why) => Walk {
-            refused: Some(why),
+            number: why.number(),
             at: 0,
             have: 0,
         },
@@ -52,17 +61,17 @@ pub fn begin(first: &[u8]) -> Walk
 
 // Takes the bytes of the block that are missing to the next thing to know: an entry's length, or its end.
 pub fn feed(w: Walk, work: &mut [u8; 65532], block: &[u8]) -> Fed
-    ensures answer { fed_in result ≡ fed_for (walk_in w) work.old block.now }
-    ensures held { work.new ≡ work_for (walk_in w) work.old block.now }
+    ensures answer { fed_in result ≡ fed_for w work.old block.now }
+    ensures held { work.new ≡ work_for w work.old block.now }
 {
-    match w.refused {
-        Some(_) => Fed {
+    if w.number != 0 {
+        return Fed {
             walk: w,
             taken: 0,
             packet: None,
-        },
-        None => take_in(w, work, block),
+        };
     }
+    take_in(w, work, block)
 }
 
 // The packet of a whole entry; none where the buffer has not so many bytes.
@@ -77,25 +86,31 @@ pub fn packet(work: &[u8], size: usize) -> &[u8]
 
 // No byte comes any more: bytes held are an entry that the end cuts.
 #[tactic(auto, using(crate::proofs::Calls::end_refused, crate::proofs::Calls::end_cut, crate::proofs::Calls::end_well))]
-pub fn end(w: Walk) -> Result<(), Refused>
-    ensures { ended_in result ≡ ended_for (walk_in w) }
+pub fn end(w: Walk) -> Ended
+    ensures { result ≡ ended_for w }
 {
-    if let Some(why) = w.refused {
-        return Err(Refused { why, place: 0 });
+    if w.number != 0 {
+        return Ended {
+            number: w.number,
+            place: 0,
+        };
     }
     if w.have != 0 {
-        return Err(Refused {
-            why: Refusal::CutOff,
+        return Ended {
+            number: Refusal::CutOff.number(),
             place: w.at,
-        });
+        };
     }
-    Ok(())
+    Ended {
+        number: 0,
+        place: 0,
+    }
 }
 
 fn take_in(w: Walk, work: &mut [u8], block: &[u8]) -> Fed
     requires { length work.old ≡ 65532 }
-    ensures answer { fed_in result ≡ fed_by (step_for (grown_for (walk_in w) work.old block.now) 0) w.at (length (grown_for (walk_in w) work.old block.now)) (length (taken_for (walk_in w) work.old block.now)) }
-    ensures held { work.new ≡ placed work.old (min w.have 65532) (taken_for (walk_in w) work.old block.now) }
+    ensures answer { fed_in result ≡ fed_by (step_for (grown_for w work.old block.now) 0) w.at (length (grown_for w work.old block.now)) (length (taken_for w work.old block.now)) }
+    ensures held { work.new ≡ placed work.old (min w.have 65532) (taken_for w work.old block.now) }
 {
     let have = w.have.min(65532);
     let need = wanted(&work[..have]);
@@ -124,7 +139,7 @@ fn judge(at: u64, held: &[u8], taken: usize) -> Fed
     match recording::next(held, 0) {
         Ok(Some(entry)) => Fed {
             walk: Walk {
-                refused: None,
+                number: 0,
                 at: at.wrapping_add(entry.next),
                 have: 0,
             },
@@ -133,7 +148,7 @@ fn judge(at: u64, held: &[u8], taken: usize) -> Fed
         },
         Ok(None) => Fed {
             walk: Walk {
-                refused: None,
+                number: 0,
                 at,
                 have,
             },
@@ -142,7 +157,7 @@ fn judge(at: u64, held: &[u8], taken: usize) -> Fed
         },
         Err(refused) => Fed {
             walk: Walk {
-                refused: met(refused.why),
+                number: met(refused.why),
                 at,
                 have,
             },
@@ -153,11 +168,11 @@ fn judge(at: u64, held: &[u8], taken: usize) -> Fed
 }
 
 #[tactic(auto, using(crate::proofs::Calls::met_cut_off, crate::proofs::Calls::met_other))]
-fn met(why: Refusal) -> Option<Refusal>
-    ensures { met_in result ≡ met_by (number_of why) }
+fn met(why: Refusal) -> u32
+    ensures { result ≡ met_by (number_of why) }
 {
     match why {
-        Refusal::CutOff => None,
-        other => Some(other),
+        Refusal::CutOff => 0,
+        other => other.number(),
     }
 }

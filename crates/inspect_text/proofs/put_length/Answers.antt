@@ -14,5 +14,5 @@ returns-then-count-i c = (omega arith, length_none _ _ _ _ _ c.if-count-i.true)
 
 pub returns : goal.returns
 returns c =
-    let p0 = puts_same (ap₂ (λ (u v : ℕ). ascii " " ++ decimal (u + v)) c.wide.ensures.0 c.wide-2.ensures.0) (fit (omega arith) c.named.ensures.1) in
+    let p0 = puts_same (ap₂ (λ (u v : ℕ). ascii " " ++ decimal (u + v)) c.from.ensures c.from-2.ensures) (fit (omega arith) c.named.ensures.1) in
     (omega arith, length_some _ _ _ c.if-count-i.false p0)

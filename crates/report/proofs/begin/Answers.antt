@@ -3,4 +3,4 @@ use Rattle.report.proofs.Ways.{begin_done}
 use Rattle.report.proofs.begin.Goals as goal
 
 pub returns : goal.returns
-returns c = begin_done _ _ _ c.begin.ensures c.none.ensures
+returns c = search begin_done

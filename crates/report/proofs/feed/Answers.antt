@@ -1,17 +1,16 @@
 -- `report::feed` meets its contract. Assumes nothing.
 use Rattle.std.proofs.Common.{ap}
 use Rattle.std.specs.Option.{is_some, unwrap_or}
-use Rattle.report.specs.State.{report_in}
 use Rattle.report.proofs.Ways.{feed_on, feed_one}
 use Rattle.report.proofs.feed.Goals as goal
 
 pub returns-in-None : goal.returns-in-None
 returns-in-None c =
-    let both = feed_on (report_in c.args.r) _ _ _ c.feed-f.ensures.answer _ _ _ c.feed-f.ensures.held (ap is_some c.in-None.is) in
+    let both = feed_on c.args.r _ _ _ c.feed-f.ensures.answer _ _ _ c.feed-f.ensures.held (ap is_some c.in-None.is) in
     record { answer = both.0; held = both.1.0; between = both.1.1.0; text = both.1.1.1 }
 
 pub returns-in-Some : goal.returns-in-Some
 returns-in-Some c =
-    let both = feed_one (report_in c.args.r) _ _ _ c.feed-f.ensures.answer _ _ _ _ _ _ _ _ _ _ c.feed-f.ensures.held (ap is_some c.in-Some.is)
+    let both = feed_one c.args.r _ _ _ c.feed-f.ensures.answer _ _ _ _ _ _ _ _ _ _ c.feed-f.ensures.held (ap is_some c.in-Some.is)
     (ap (λ o. unwrap_or o 0) c.in-Some.is) c.packet.ensures (c.saw-a.ensures.after, (c.saw-a.ensures.between, c.saw-a.ensures.text)) in
     record { answer = both.0; held = both.1.0; between = both.1.1.0; text = both.1.1.1 }
