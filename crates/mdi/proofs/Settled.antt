@@ -9,7 +9,8 @@ use Rattle.std.specs.Prelude.{Result}
 use Rattle.record.specs.declared.Record.{Record}
 use Rattle.refusal.specs.declared.Refused.{Refused}
 use Rattle.refusal.proofs.Placed.{TellsPlace, settled_placed}
-use Rattle.mdi.specs.Reading.{Answer, read_in, read_for, stream_for}
+use Rattle.mdi.specs.declared.Answer.{Answer}
+use Rattle.mdi.specs.Reading.{read_in, read_for, stream_for}
 
 read_tells : TellsPlace {A = Record} {V = Answer} read_in
 read_tells =
