@@ -49,8 +49,7 @@ fn month_days(long: bool, month: u64) -> u64
 }
 
 // The years from 2000 on: 400 of them have 146,097 days, wherever they begin.
-// Kept: beside `months`, not one function of a closure for the sizes: its contract would have to state what each size is, that years end because
-// none is 0 and months because there are twelve, and the callers to prove it, in more lines than the loop has.
+// Kept: beside `months`; one function over the sizes would need what each size is and why the loop ends in its contract, more lines than it saves.
 fn years(days: u64) -> Passed
     ensures { (days_of_years result.count + result.rest ≡ days) × (result.rest < year_days (2000 + result.count)) × (result.count * 365 ≤ days) }
 {
