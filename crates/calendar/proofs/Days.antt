@@ -1,6 +1,6 @@
 -- Counting days: leap years come round after 400 years, and a year or a month more adds its days. Assumes nothing.
 use Prim.Native.Nat.{ℕ, zero, suc, ◌+◌, ◌-◌, ◌*◌, ◌/◌, ◌%◌, ◌≤◌, ◌<◌}
-use mathlib.Core.Bool.{Bool, true, false}
+use mathlib.Core.Bool.{Bool, true, false, not}
 use mathlib.Core.Path.{◌≡◌, refl, sym, ap, ◌∙◌}
 use native.Mathlib.Nat.{div-add-mod', add-suc}
 use native.Mathlib.Numerals.{add-one}
@@ -14,11 +14,11 @@ use Rattle.calendar.specs.Calendar.{leap, year_days, month_days, days_of_years, 
 -- ---- leap years
 
 module _ (y : ℕ) where
-  pub no_fourth : (y % 4 ≡ 0 → ⊥) → false ≡ leap y
+  pub no_fourth : (y % 4 ≡ 0 → ⊥) → eqb (y % 4) 0 ≡ leap y
   unfolding leap
   no_fourth h = simp (ne_eqb _ _ h)
 
-  pub no_century : y % 4 ≡ 0 → (y % 100 ≡ 0 → ⊥) → true ≡ leap y
+  pub no_century : y % 4 ≡ 0 → (y % 100 ≡ 0 → ⊥) → not (eqb (y % 100) 0) ≡ leap y
   unfolding leap
   no_century h k = simp (eq-eqb _ _ h, ne_eqb _ _ k)
 
@@ -105,7 +105,7 @@ module _ (l : Bool) (days count rest size : ℕ) (e : days_of_months l count + r
           let f : days < days_of_months l (count + 1) = rw (← q) d in
           absurd (let m = more in omega arith)
 
--- ---- one month's days, from the table of the long and of the short year
+-- ---- one month's days, from the table of the short year and February's of the long one
 
 -- below 256: computed for each
 small : (l : Bool) (m : ℕ) → m < 13 → month_days l m % 256 ≡ month_days l m
@@ -113,7 +113,23 @@ unfolding month_days
 small true m h = below (λ k. month_days true k % 256) (λ k. month_days true k) 13 tt m h
 small false m h = below (λ k. month_days false k % 256) (λ k. month_days false k) 13 tt m h
 
-pub month_is : (l b : Bool) (m r : ℕ) → m ≤ 12 → l ≡ b → r ≡ month_days b m → (r ≡ month_days l m) × (r < 256)
-month_is l b m r h e f =
-    let q : r % 256 ≡ r = ap (λ n. n % 256) f ∙ small b m (omega arith) ∙ sym f in
-    (f ∙ ap (λ (k : Bool). month_days k m) (sym e), omega arith)
+pub month_is : (l : Bool) (m r : ℕ) → m ≤ 12 → r ≡ month_days l m → (r ≡ month_days l m) × (r < 256)
+month_is l m r h e =
+    let q : r % 256 ≡ r = ap (λ n. n % 256) e ∙ small l m (omega arith) ∙ sym e in
+    (e, omega arith)
+
+pub february : (l : Bool) (m : ℕ) → l ≡ true → m ≡ 2 → (29 ≡ month_days l m) × (29 < 256)
+unfolding month_days
+february l m e f = (rw (e, f) refl, omega arith)
+
+-- but for February the two years have the same months
+pub long_month : (l : Bool) (m : ℕ) → (m ≡ 2 → ⊥) → month_days false m ≡ month_days l m
+unfolding month_days
+long_month false m h = refl
+long_month true zero h = refl
+long_month true (suc zero) h = refl
+long_month true (suc (suc zero)) h = absurd (h refl)
+long_month true (suc (suc (suc m))) h = refl
+
+pub short_month : (l : Bool) (m : ℕ) → l ≡ false → month_days false m ≡ month_days l m
+short_month l m e = ap (λ (k : Bool). month_days k m) (sym e)

@@ -25,13 +25,7 @@ struct Passed {
 fn is_leap(year: u64) -> bool
     ensures { result ≡ leap year }
 {
-    if year % 4 != 0 {
-        return false;
-    }
-    if year % 100 != 0 {
-        return true;
-    }
-    year % 400 == 0
+    year % 4 == 0 && (year % 100 != 0 || year % 400 == 0)
 }
 
 fn year_days(year: u64) -> u64
@@ -40,29 +34,29 @@ fn year_days(year: u64) -> u64
     if is_leap(year) { 366 } else { 365 }
 }
 
-// The days of each month, from 1 on, in a year of 366 days and in one of 365.
-const LONG: [u64; 13] = [0, 31, 29, 31, 30, 31, 30, 31, 31, 30, 31, 30, 31];
-
-const SHORT: [u64; 13] = [0, 31, 28, 31, 30, 31, 30, 31, 31, 30, 31, 30, 31];
+// The days of each month, from 1 on, in a year of 365 days.
+const DAYS: [u64; 13] = [0, 31, 28, 31, 30, 31, 30, 31, 31, 30, 31, 30, 31];
 
 fn month_days(long: bool, month: u64) -> u64
     requires { month ≤ 12 }
     ensures { (result ≡ month_days long month) × (result < 256) }
 {
-    if long {
-        LONG[month as usize]
+    if long && month == 2 {
+        29
     } else {
-        SHORT[month as usize]
+        DAYS[month as usize]
     }
 }
 
 // The years from 2000 on: 400 of them have 146,097 days, wherever they begin.
+// Kept: beside `months`; one function over the sizes would need what each size is and why the loop ends in its contract, more lines than it saves.
 fn years(days: u64) -> Passed
     ensures { (days_of_years result.count + result.rest ≡ days) × (result.rest < year_days (2000 + result.count)) × (result.count * 365 ≤ days) }
 {
     let mut count = days / 146097 * 400;
     let mut rest = days % 146097;
     let mut size = year_days(2000 + count);
+    // Kept: here and in `months` the loop ends by the days that are left; the count is what it finds, and no index of anything.
     while size <= rest {
         rest -= size;
         count += 1;

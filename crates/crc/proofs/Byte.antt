@@ -7,7 +7,7 @@ use lib.Bits.{bit_xor, xor_lt}
 use lib.Dec.{lit<}
 use lib.ListN.{replicate}
 use Rattle.crc.specs.Crc.{feed, bits_of}
-use Rattle.crc.proofs.Register.{Register}
+use Rattle.crc.specs.Register.{Register}
 use Rattle.crc.proofs.Linear.{Bits, feed_linear}
 use Rattle.laws.proofs.Xor.{xor_back}
 

@@ -1,4 +1,3 @@
-pub mod Register
 pub mod Linear
 pub mod Byte
 pub mod Turns

@@ -9,7 +9,7 @@ use lib.Dec.{lit<}
 use lib.ListN.{length, replicate}
 use lib.Pow.{pow_pos}
 use Rattle.crc.specs.Crc.{shift, feed}
-use Rattle.crc.proofs.Register.{Register}
+use Rattle.crc.specs.Register.{Register}
 use Rattle.laws.proofs.Xor.{xor_swap, xor_double, xor_times}
 
 -- each is a bit

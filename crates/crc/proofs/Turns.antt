@@ -8,7 +8,7 @@ use lib.Dec.{lit<}
 use lib.ListN.{replicate}
 use lib.Pow.{pow_pos}
 use Rattle.crc.specs.Crc.{shift, feed, bits_of}
-use Rattle.crc.proofs.Register.{Register}
+use Rattle.crc.specs.Register.{Register}
 use Rattle.crc.proofs.Linear.{shift_lt}
 use Rattle.crc.proofs.Byte.{byte_first}
 
@@ -22,7 +22,7 @@ pub turned_none : {w p r b c : ℕ} → Register w p → r < 2 ^ w → b < 256 �
 turned_none {w} {p} {r} {b} R hr hb e =
     record { within = omega arith; fits = rw e (xor_lt w r (b * 2 ^ (w - 8)) hr (R.byte_fits b hb)); left = rw e (byte_first w p R r b hr hb) }
 
-turned_one : {w p r b c k : ℕ} (d : ℕ) → Register w p → k < 8 → d ≡ shift w p c 0 → Turned w p r b c k → Turned w p r b d (k + 1)
+pub turned_one : {w p r b c k : ℕ} (d : ℕ) → Register w p → k < 8 → d ≡ shift w p c 0 → Turned w p r b c k → Turned w p r b d (k + 1)
 unfolding feed
 turned_one {w} {p} {c} {k} d R h e t =
     let one : 8 - k ≡ suc (8 - (k + 1)) = omega arith in
@@ -41,18 +41,16 @@ unfolding shift
 turn w p c q e = ap (λ (n : ℕ). bit_xor (c * 2 % 2 ^ w) (n * p)) (xor_zero_r (c / 2 ^ (w - 1)) ∙ e)
 
 -- a turn where the top bit is set, and one where it is not
-pub turned_set : {w p r b c d k : ℕ} → Register w p → k < 8 → 2 ^ (w - 1) ≤ c → d ≡ bit_xor (c * 2 % 2 ^ w) p
-    → Turned w p r b c k → Turned w p r b d (k + 1)
-turned_set {w} {p} {c} {d} R h s e t =
+pub turn_set : {w p : ℕ} (c : ℕ) → Register w p → c < 2 ^ w → 2 ^ (w - 1) ≤ c → bit_xor (c * 2 % 2 ^ w) p ≡ shift w p c 0
+turn_set {w} {p} c R h s =
     let low : 1 ≤ c / 2 ^ (w - 1) = (le-div_iff_mul-le (pow_pos (w - 1))).1 (rw one-mul s) in
-    let high = R.top c t.fits in
-    turned_one d R h (e ∙ sym (turn w p c 1 (omega arith) ∙ ap (bit_xor (c * 2 % 2 ^ w)) (one-mul p))) t
+    let high = R.top c h in
+    sym (turn w p c 1 (omega arith) ∙ ap (bit_xor (c * 2 % 2 ^ w)) (one-mul p))
 
-pub turned_clear : {w p r b c d k : ℕ} → Register w p → k < 8 → c < 2 ^ (w - 1) → d ≡ c * 2 % 2 ^ w
-    → Turned w p r b c k → Turned w p r b d (k + 1)
-turned_clear {w} {p} {c} {d} R h s e t =
+pub turn_clear : (w p c : ℕ) → c < 2 ^ (w - 1) → c * 2 % 2 ^ w ≡ shift w p c 0
+turn_clear w p c s =
     let n = c * 2 % 2 ^ w in
-    turned_one d R h (e ∙ sym (turn w p c 0 (div-eq_of_lt s) ∙ ap (bit_xor n) (zero-mul p) ∙ xor_zero_r n)) t
+    sym (turn w p c 0 (div-eq_of_lt s) ∙ ap (bit_xor n) (zero-mul p) ∙ xor_zero_r n)
 
 pub turned_all : {w p r b c k : ℕ} → 8 ≤ k → Turned w p r b c k → c ≡ feed w p r (bits_of b)
 unfolding feed

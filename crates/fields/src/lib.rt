@@ -6,6 +6,7 @@ ghost use Rattle.laws.specs.Big.{number_at};
 ghost use Rattle.fields.specs.Numbers.{put_at};
 
 // The number at the offset, or 0 where it is not there.
+// Kept: the six calls of docs/PROMISES.md, a line each over one `read` and one `write`; a trait for the three types would be longer than they are.
 pub fn read16(s: &[u8], at: usize) -> u16
     ensures { result ≡ number_at 2 s.now at }
 {

@@ -4,7 +4,7 @@ use mathlib.Core.Bool.{Bool, true, false}
 use mathlib.Core.List.{List, ◌++◌}
 use Prim.Native.Nat.{ℕ, ◌+◌, ◌≤◌, ◌<◌}
 use native.Mathlib.Omega.{arith}
-use borrow.Author.Tests.{le-leb, lt-leb}
+use borrow.Author.Tests.{le-leb, lt-leb, leb-true, leb-false}
 use lib.Dec.{leb}
 use lib.ListN.{length}
 use Rattle.laws.specs.Pick.{pick}
@@ -14,9 +14,20 @@ use Rattle.moves.proofs.Pieces.{puts, puts_then, puts_same}
 use Rattle.line_text.specs.Decimal.{decimal}
 use Rattle.line_text.specs.Line.{Placed}
 
+-- what the test of the room says
+pub has_room : {n m : ℕ} {b : Bool} → b ≡ leb n m → b ≡ true → n ≤ m
+has_room {n} {m} e t = leb-true n m (sym e ∙ t)
+
 -- no room: nothing is written
 pub no_room : (room : ℕ) (d : List ℕ) (at : ℕ) (text : List ℕ) → length d < at + room → Placed room d at text d at
 no_room room d at text h = let f = lt-leb (at + room) (length d) h in record { buffer = rw f refl; end = rw f refl }
+
+-- and what a call answers by the test
+pub lacks_room : {n : ℕ} {b : Bool} (room : ℕ) (d : List ℕ) (at : ℕ) (text : List ℕ) → b ≡ leb n (length d) → b ≡ false → n ≡ at + room
+    → (at ≤ at + room) × Placed room d at text d at
+lacks_room {n} room d at text e t s =
+    let h : length d < n = leb-false n (length d) (sym e ∙ t) in
+    (omega arith, no_room room d at text (omega arith))
 
 -- a text that stands there, and had the room asked for
 pub placed : (room : ℕ) (d : List ℕ) (at : ℕ) (text e : List ℕ) (n : ℕ) → at + room ≤ length d → moves.Puts d at text e n → Placed room d at text e n

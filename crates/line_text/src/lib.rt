@@ -3,9 +3,20 @@
 // offset itself.
 #![tactic(auto)]
 
-ghost use Rattle.std.specs.Prelude.{◌≡◌, ◌++◌, ◌+◌, ◌≤◌, length, take};
+ghost use Rattle.std.specs.Prelude.{◌≡◌, ◌++◌, ◌+◌, ◌≤◌, leb, length, take};
 ghost use Rattle.line_text.specs.Decimal.{decimal, number_line, pair_line};
 ghost use Rattle.line_text.specs.Line.{Placed};
+
+// Whether two words of these lengths and so many bytes more lie within the buffer from the offset on. Any of these may be any number, so a sum
+// is formed only where it has room.
+fn fits(out: &[u8], at: usize, first: usize, second: usize, more: usize) -> bool
+    ensures { result ≡ leb (at + (first + second + more)) (length out.now) }
+{
+    at.checked_add(first)
+        .and_then(|end| end.checked_add(second))
+        .and_then(|end| end.checked_add(more))
+        .is_some_and(|end| end <= out.len())
+}
 
 // A word, at the offset; the answer is the offset behind it.
 pub fn word(text: &[u8], out: &mut [u8], at: usize) -> usize
@@ -22,6 +33,7 @@ fn spell(n: u64, out: &mut [u8; 20]) -> usize
     let mut digits = [0u8; 20];
     let mut at = 20;
     let mut rest = n;
+    // Kept: the loop ends by the number that is left and counts no index up; a loop over the places would need a test and a break in its body.
     while 10 <= rest {
         at -= 1;
         digits[at] = b'0' + (rest % 10) as u8;
@@ -36,15 +48,7 @@ fn spell(n: u64, out: &mut [u8; 20]) -> usize
 pub fn named(text: &[u8], n: u64, out: &mut [u8], at: usize) -> usize
     ensures { (result ≤ at + (length text.now + 20)) × Placed (length text.now + 20) out.old at (text.now ++ decimal n) out.new result }
 {
-    // The offset may be any number, so no sum is formed before it is known to fit.
-    if out.len() < at {
-        return at;
-    }
-    let room = out.len() - at;
-    if room < 20 {
-        return at;
-    }
-    if room - 20 < text.len() {
+    if !fits(out, at, text.len(), 0, 20) {
         return at;
     }
     let mut digits = [0u8; 20];
@@ -57,14 +61,7 @@ pub fn named(text: &[u8], n: u64, out: &mut [u8], at: usize) -> usize
 pub fn line(text: &[u8], n: u64, out: &mut [u8], at: usize) -> usize
     ensures { (result ≤ at + (length text.now + 21)) × Placed (length text.now + 21) out.old at (number_line text.now n) out.new result }
 {
-    if out.len() < at {
-        return at;
-    }
-    let room = out.len() - at;
-    if room < 21 {
-        return at;
-    }
-    if room - 21 < text.len() {
+    if !fits(out, at, text.len(), 0, 21) {
         return at;
     }
     let a = named(text, n, out, at);
@@ -75,17 +72,7 @@ pub fn line(text: &[u8], n: u64, out: &mut [u8], at: usize) -> usize
 pub fn pair(first: &[u8], n: u64, second: &[u8], m: u64, out: &mut [u8], at: usize) -> usize
     ensures { (result ≤ at + (length first.now + length second.now + 41)) × Placed (length first.now + length second.now + 41) out.old at (pair_line first.now n second.now m) out.new result }
 {
-    if out.len() < at {
-        return at;
-    }
-    let room = out.len() - at;
-    if room < 41 {
-        return at;
-    }
-    if room - 41 < first.len() {
-        return at;
-    }
-    if room - 41 - first.len() < second.len() {
+    if !fits(out, at, first.len(), second.len(), 41) {
         return at;
     }
     let a = named(first, n, out, at);

@@ -1,4 +1,5 @@
--- What the laws ask of a width and a polynomial, and that CRC-8 and CRC-16 have it. Assumes nothing.
+-- What the laws ask of a width and a polynomial, and that CRC-8 and CRC-16 have it: the law of the private trait `Word`, which is why it stands
+-- here. No promise names it. Assumes nothing.
 use mathlib.Core.Path.{◌≡◌}
 use Prim.Native.Nat.{ℕ, ◌-◌, ◌*◌, ◌/◌, ◌^◌, ◌<◌}
 use native.Mathlib.Omega.{arith}
