@@ -7,12 +7,6 @@ ghost use Rattle.items.specs.Items.{cut_of};
 ghost use Rattle.tag_spots.specs.Rows.{keys_of, starts_after, bits_after, starts_for, bits_for};
 ghost use Rattle.tag_spots.specs.Notes.{row_of, noted_at};
 
-fn wide(b: u8) -> usize
-    ensures { (result ≡ b) × (result < 256) }
-{
-    b as usize
-}
-
 // The row whose name has this number, of n rows; n where none has it. The names stand one behind the other, four bytes each; the slot at
 // the number's remainder holds the only row that can have it.
 fn row_of(names: &[u8], slots: &[u8], n: usize, key: u32) -> usize
@@ -22,11 +16,9 @@ fn row_of(names: &[u8], slots: &[u8], n: usize, key: u32) -> usize
     if m == 0 {
         return n;
     }
-    let row = wide(slots[key as usize % m]);
-    if row < n {
-        if fields::read32(names, 4 * row) == key {
-            return row;
-        }
+    let row = usize::from(slots[key as usize % m]);
+    if row < n && fields::read32(names, 4 * row) == key {
+        return row;
     }
     n
 }
