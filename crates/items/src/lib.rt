@@ -46,6 +46,7 @@ pub fn walk(s: &[u8]) -> Walked
 {
     let mut at: usize = 0;
     let mut count: usize = 0;
+    // Kept: a loop, for the answer has the offset where the items stop, and a `for` over an iterator of items would have taken it.
     loop {
         let n = size_at(s, at);
         if n == 0 {

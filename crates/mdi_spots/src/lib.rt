@@ -41,6 +41,7 @@ pub const STR3: usize = 9;
 pub const TIST: usize = 10;
 
 // Where the value of each row's item starts in the packet, and how many bits it has; 0 and 0: there is no such item.
+// Kept: two arrays, as tag_spots::find_all fills them; one array of Spot would be a copy of them, row by row.
 #[derive(Clone, Copy)]
 pub struct Spots {
     pub start: [usize; 11],

@@ -52,6 +52,7 @@ fn note_all(s: &[u8], names: &[u8], slots: &[u8], starts: &mut [usize], bits: &m
     ensures { (result ≡ (cut_of s.now).stop) × (result ≤ length s.now) × (starts.new ≡ starts_after (keys_of names.now slots.now (length starts.old)) (cut_of s.now).items starts.old bits.old) × (bits.new ≡ bits_after (keys_of names.now slots.now (length starts.old)) (cut_of s.now).items starts.old bits.old) }
 {
     let mut at: usize = 0;
+    // Kept: a loop, for the answer is the offset where the items stop, as in items::walk.
     loop {
         let n = items::size_at(s, at);
         if n == 0 {
@@ -65,6 +66,7 @@ fn note_all(s: &[u8], names: &[u8], slots: &[u8], starts: &mut [usize], bits: &m
 }
 
 // The same of any two slices: where their lengths differ they are left as they are.
+// Kept: two slices, since docs/PROMISES.md (tag_spots) and starts_for and bits_for say what is left where their lengths differ.
 pub fn find_all(
     s: &[u8],
     names: &[u8],

@@ -13,6 +13,6 @@ returns-in-Some c =
 pub returns-in_default : goal.returns-in_default
 returns-in_default c =
     elim c.in_default.branch [
-      in_default-via-in-Some+else-size-rest w ↦ (let l = w.in-Some.ensures.lookup.0.3 in value_out _ _ _ c.bytes-size.ensures.0 (omega (arith, w.if-size-rest.false)))
+      | in_default-via-in-Some+else-size-rest w ↦ (let l = w.in-Some.ensures.lookup.0.3 in value_out _ _ _ c.bytes-size.ensures.0 (omega (arith, w.if-size-rest.false)))
       | in_default-via-in_default w ↦ (let h = w.in_default.ensures.lookup.0 in value_out _ _ _ c.bytes-size.ensures.0 (grind arith))
     ]

@@ -18,6 +18,6 @@ pub returns : goal.returns
 returns c =
     let low = c.ranges.key in
     elim c.else-row-n.branch [
-      else-row-n-via-then-row-n+else-read32-key w ↦ (row_other c.args.names.now c.args.slots.now _ _ (omega (arith, low)) c.if-m-eq0.false _ c.from-row.ensures _ w.read32.ensures w.if-read32-key.false)
+      | else-row-n-via-then-row-n+else-read32-key w ↦ (row_other c.args.names.now c.args.slots.now _ _ (omega (arith, low)) c.if-m-eq0.false _ c.from-row.ensures _ w.read32.ensures w.if-read32-key.false)
       | else-row-n-via-else-row-n w ↦ (row_none c.args.names.now c.args.slots.now _ _ (omega (arith, low)) c.if-m-eq0.false _ c.from-row.ensures w.if-row-n.false)
     ]
