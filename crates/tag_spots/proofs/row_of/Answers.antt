@@ -12,7 +12,7 @@ pub bounds-slots-key : goal.bounds-slots-key
 bounds-slots-key c = let h = c.if-m-eq0.false in mod-lt _ (omega (arith, h))
 
 pub returns-then-read32-key : goal.returns-then-read32-key
-returns-then-read32-key c = row_here c.args.names.now c.args.slots.now _ _ (omega (arith, c.ranges.key)) c.if-m-eq0.false _ c.from-row.ensures _ c.if-row-n.true c.read32.ensures c.if-read32-key.true
+returns-then-read32-key c = (row_here c.args.names.now c.args.slots.now _ _ (omega (arith, c.ranges.key)) c.if-m-eq0.false _ c.from-row.ensures _ c.if-row-n.true c.read32.ensures c.if-read32-key.true, c.if-row-n.true)
 
 pub returns : goal.returns
 returns c =
