@@ -1,5 +1,5 @@
 -- What the passes over a packet do at an offset, in the code's words. Assumes nothing.
-use mathlib.Core.Path.{◌≡◌, refl, sym, ap, ◌∙◌}
+use mathlib.Core.Path.{◌≡◌, refl, sym, ap, ap₂, ◌∙◌}
 use mathlib.Core.List.{List, []}
 use Prim.Native.Nat.{ℕ, suc, ◌+◌, ◌*◌, ◌-◌, ◌≤◌, ◌<◌}
 use native.Mathlib.Omega.{arith}
@@ -22,37 +22,33 @@ number_later s at h =
     let b : at + 4 + 4 ≤ length s = omega arith in
     rw (le-leb (4 + 4) (length (drop at s)) a, le-leb (at + 4 + 4) (length s) b) (ap (λ (t : List ℕ). big_of (take 4 t)) (drop-drop 4 at s))
 
+-- what `get` gives from an offset on
+pub rest_at : (s r : List ℕ) (at : ℕ) → at ≤ length s → r ≡ take (length s - at) (drop at s) → r ≡ drop at s
+rest_at s r at h e = e ∙ take_all (length s - at) (drop at s) (simp length-drop (omega arith))
+
 module _ (s : List ℕ) (at : ℕ) where
-  pub size_none : length s < at + 8 → 0 ≡ size_at s at
+  pub size_none : length s < at → 0 ≡ size_at s at
   unfolding size_at
   size_none h =
       let k : length (drop at s) < size_of (drop at s) = omega (arith, length-drop at s, size_pos (drop at s)) in
       rw (lt-leb _ _ k) refl
 
-  pub size_short : length s < 8 → 0 ≡ size_at s at
-  size_short h = size_none (omega arith)
-
-  pub size_far : 8 ≤ length s → length s - 8 < at → 0 ≡ size_at s at
-  size_far l h = size_none (omega arith)
-
-  module _ (l : 8 ≤ length s) (far : at ≤ length s - 8) (w b : ℕ) (e : w ≡ number_at 4 s (at + 4)) (f : b ≡ bytes_for w) where
-    size_is : size_of (drop at s) ≡ 8 + b
+  module _ (r : List ℕ) (e : r ≡ drop at s) (w b : ℕ) (f : w ≡ number_at 4 r 4) (g : b ≡ bytes_for w) where
+    size_is : 8 + b ≡ size_of (drop at s)
     unfolding size_of bits_at
-    size_is = rw (number_later s at (omega arith), ← e, ← f) refl
+    size_is = ap (λ (n : ℕ). 8 + n) (g ∙ ap bytes_for (f ∙ ap (λ (t : List ℕ). number_at 4 t 4) e))
 
-    pub size_past : length s - at < 8 + b → 0 ≡ size_at s at
+    pub size_past : length r < 8 + b → 0 ≡ size_at s at
     unfolding size_at
     size_past h =
-        let k : length (drop at s) < size_of (drop at s) = omega (arith, length-drop at s, size_is) in
+        let k : length (drop at s) < size_of (drop at s) = omega (arith, ap length e, size_is) in
         rw (lt-leb _ _ k) refl
 
-    pub size_whole : 8 + b ≤ length s - at → 8 + b ≡ size_at s at
+    pub size_whole : 8 + b ≤ length r → 8 + b ≡ size_at s at
     unfolding size_at
     size_whole h =
-        let k : size_of (drop at s) ≤ length (drop at s) = omega (arith, length-drop at s, size_is) in
-        sym (rw (le-leb _ _ k) size_is)
-
-pub ruleset sizes = (size_short, size_far, size_past, size_whole)
+        let k : size_of (drop at s) ≤ length (drop at s) = omega (arith, ap length e, size_is) in
+        rw (le-leb _ _ k) size_is
 
 -- ---- `walk`
 
@@ -138,9 +134,8 @@ module _ (s : List ℕ) (x : Spot) (k : ℕ) (e : k ≡ bytes_for x.bits) where
   unfolding shown_at
   value_out h = let l : length s < x.start + bytes_for x.bits = omega arith in rw (lt-leb _ _ l) refl
 
-  pub value_in : x.start + k ≤ length s → take (x.start + k - x.start) (drop x.start s) ≡ shown_at s x
+  pub value_in : x.start + k ≤ length s → (r : List ℕ) → r ≡ drop x.start s → take k r ≡ shown_at s x
   unfolding shown_at
-  value_in h =
+  value_in h r f =
       let l : x.start + bytes_for x.bits ≤ length s = omega arith in
-      let m : x.start + k - x.start ≡ bytes_for x.bits = omega arith in
-      rw (le-leb _ _ l, m) refl
+      rw (le-leb _ _ l) (ap₂ take e f)

@@ -19,27 +19,22 @@ pub struct Walked {
     pub count: usize,
 }
 
-// The whole bytes that so many bits take. FFFFFFFF bits are half a gigabyte: no sum of 32 bits is formed.
+// The whole bytes that so many bits take.
 pub fn bytes(bits: u32) -> usize
     ensures { (result ≡ bytes_for bits) × (result ≤ 2 ^ 29) }
 {
-    let n = bits as usize;
-    n / 8 + (n % 8 + 7) / 8
+    (bits as usize).div_ceil(8)
 }
 
 // The bytes of the whole item at an offset, header and value; 0 where none stands there.
 pub fn size_at(s: &[u8], at: usize) -> usize
     ensures { result ≡ size_at s.now at }
 {
-    let len = s.len();
-    if len < 8 {
+    let Some(rest) = s.get(at..) else {
         return 0;
-    }
-    if len - 8 < at {
-        return 0;
-    }
-    let size = 8 + bytes(fields::read32(s, at + 4));
-    if len - at < size {
+    };
+    let size = 8 + bytes(fields::read32(rest, 4));
+    if rest.len() < size {
         return 0;
     }
     size
@@ -51,6 +46,7 @@ pub fn walk(s: &[u8]) -> Walked
 {
     let mut at: usize = 0;
     let mut count: usize = 0;
+    // Kept: a loop, for the answer has the offset where the items stop, and a `for` over an iterator of items would have taken it.
     loop {
         let n = size_at(s, at);
         if n == 0 {
@@ -65,13 +61,9 @@ pub fn walk(s: &[u8]) -> Walked
 pub fn value(s: &[u8], x: Spot) -> &[u8]
     ensures { result.now ≡ shown_at s.now x }
 {
-    let start = x.start;
     let size = bytes(x.bits);
-    if s.len() < size {
-        return &s[..0];
+    match s.get(x.start..) {
+        Some(rest) if size <= rest.len() => &rest[..size],
+        _ => &[],
     }
-    if s.len() - size < start {
-        return &s[..0];
-    }
-    &s[start..start + size]
 }

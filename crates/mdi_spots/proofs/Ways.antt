@@ -1,7 +1,7 @@
 -- What the calls join. Assumes nothing.
 use Prim.Native.Nat.{ℕ, ◌≤◌}
-use mathlib.Core.Path.{◌≡◌, refl, sym, ◌∙◌}
-use mathlib.Core.Bool.{Bool, true, false, ◌||◌}
+use mathlib.Core.Path.{◌≡◌, refl, sym, ap, ◌∙◌}
+use mathlib.Core.Bool.{Bool, true, false, ◌&&◌, ◌||◌, not}
 use mathlib.Core.List.{List, map}
 use lib.ListN.{length, get_or, get_or-eq_default}
 use native.Mathlib.Omega.{arith}
@@ -34,6 +34,11 @@ no_row t k l m h =
     let a : get_or t.start k 0 ≡ 0 = get_or-eq_default t.start 0 {n = k} (omega arith) in
     let b : get_or t.bits k 0 ≡ 0 = get_or-eq_default t.bits 0 {n = k} (omega arith) in
     rw (a, b) refl
+
+-- ---- `is_wrong`: by what the rule answers of the bits
+pub by_rule : (rule : ℕ → Bool) (x : Spot) (ok r : Bool) → ok ≡ rule x.bits → r ≡ (not (away x) && not ok) → r ≡ wrong_at rule x
+unfolding wrong_at
+by_rule rule x ok r e h = h ∙ ap (λ (b : Bool). not (away x) && not b) e
 
 -- ---- 4 and 5: `or` from the left is `or` over the rows
 five : (a b c d e : Bool) → (a || b || c || d || e) ≡ (a || (b || (c || (d || (e || false)))))

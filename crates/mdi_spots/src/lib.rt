@@ -2,10 +2,10 @@
 // has a length that is not in the table. A row is its place in the table.
 #![tactic(auto)]
 
-ghost use Rattle.std.specs.Prelude.{◌≡◌, ◌≤◌, length};
+ghost use Rattle.std.specs.Prelude.{Bool, ◌&&◌, not, ◌≡◌, ◌≤◌, length};
 ghost use Rattle.items.specs.Items.{cut_of};
-ghost use Rattle.mdi_spots.specs.Table.{exactly, whole_bytes, sdc_bits, sdci_bits};
-ghost use Rattle.mdi_spots.specs.Spotted.{passed_of, spot_in, away, wrong_at, absent_at, bad_length_at};
+ghost use Rattle.mdi_spots.specs.Table.{whole_bytes, sdc_bits, sdci_bits};
+ghost use Rattle.mdi_spots.specs.Spotted.{passed_of, spot_in, away, absent_at, bad_length_at};
 
 use items::Spot;
 
@@ -41,6 +41,7 @@ pub const STR3: usize = 9;
 pub const TIST: usize = 10;
 
 // Where the value of each row's item starts in the packet, and how many bits it has; 0 and 0: there is no such item.
+// Kept: two arrays, as tag_spots::find_all fills them; one array of Spot would be a copy of them, row by row.
 #[derive(Clone, Copy)]
 pub struct Spots {
     pub start: [usize; 11],
@@ -82,30 +83,30 @@ fn is_away(x: Spot) -> bool
     x.start == 0
 }
 
-fn not_exactly(x: Spot, bits: u32) -> bool
-    ensures { result ≡ wrong_at (exactly bits) x }
+fn is_whole(bits: u32) -> bool
+    ensures { result ≡ whole_bytes bits }
 {
-    !(x.start == 0) & !(x.bits == bits)
+    bits % 8 == 0
 }
 
-fn not_whole(x: Spot) -> bool
-    ensures { result ≡ wrong_at whole_bytes x }
+fn is_sdc(bits: u32) -> bool
+    ensures { result ≡ sdc_bits bits }
 {
-    !(x.start == 0) & !(x.bits % 8 == 0)
+    bits == 0 || (24..=8216).contains(&bits) && is_whole(bits)
 }
 
-fn not_sdc(x: Spot) -> bool
-    ensures { result ≡ wrong_at sdc_bits x }
+fn is_sdci(bits: u32) -> bool
+    ensures { result ≡ sdci_bits bits }
 {
-    let some = (24 <= x.bits) & (x.bits <= 8216) & (x.bits % 8 == 0);
-    !(x.start == 0) & !((x.bits == 0) | some)
+    [32, 56, 80, 104].contains(&bits)
 }
 
-fn not_sdci(x: Spot) -> bool
-    ensures { result ≡ wrong_at sdci_bits x }
+// An item that is there has a length that is not allowed.
+fn is_wrong<F: Fn(u32) -> bool>(x: Spot, is_allowed: F) -> bool
+    requires { F.IsAlwaysCallable is_allowed }
+    ensures { (ok : Bool) × F.post is_allowed x.bits ok × (result ≡ (not (away x) && not ok)) }
 {
-    let known = (x.bits == 32) | (x.bits == 56) | (x.bits == 80) | (x.bits == 104);
-    !(x.start == 0) & !known
+    !is_away(x) & !is_allowed(x.bits)
 }
 
 // 4: one of the five items that must be there is not.
@@ -123,15 +124,15 @@ pub fn missing(t: Spots) -> bool
 pub fn bad_length(t: Spots) -> bool
     ensures { result ≡ bad_length_at t }
 {
-    not_exactly(spot(t, PTR), 64)
-        | not_exactly(spot(t, DLFC), 32)
-        | not_exactly(spot(t, FAC), 72)
-        | not_sdc(spot(t, SDC))
-        | not_sdci(spot(t, SDCI))
-        | not_exactly(spot(t, ROBM), 8)
-        | not_whole(spot(t, STR0))
-        | not_whole(spot(t, STR1))
-        | not_whole(spot(t, STR2))
-        | not_whole(spot(t, STR3))
-        | not_exactly(spot(t, TIST), 64)
+    is_wrong(spot(t, PTR), |bits| bits == 64)
+        | is_wrong(spot(t, DLFC), |bits| bits == 32)
+        | is_wrong(spot(t, FAC), |bits| bits == 72)
+        | is_wrong(spot(t, SDC), is_sdc)
+        | is_wrong(spot(t, SDCI), is_sdci)
+        | is_wrong(spot(t, ROBM), |bits| bits == 8)
+        | is_wrong(spot(t, STR0), is_whole)
+        | is_wrong(spot(t, STR1), is_whole)
+        | is_wrong(spot(t, STR2), is_whole)
+        | is_wrong(spot(t, STR3), is_whole)
+        | is_wrong(spot(t, TIST), |bits| bits == 64)
 }

@@ -5,30 +5,22 @@
 ghost use Rattle.std.specs.Prelude.{◌≡◌, ◌^◌, ◌≤◌, ◌<◌, length};
 ghost use Rattle.items.specs.Items.{cut_of};
 ghost use Rattle.tag_spots.specs.Rows.{keys_of, starts_after, bits_after, starts_for, bits_for};
-ghost use Rattle.tag_spots.specs.Notes.{row_of, noted_at};
+ghost use Rattle.tag_spots.specs.Notes.{row_of, IsRow, noted_at};
 
-fn wide(b: u8) -> usize
-    ensures { (result ≡ b) × (result < 256) }
-{
-    b as usize
-}
-
-// The row whose name has this number, of n rows; n where none has it. The names stand one behind the other, four bytes each; the slot at
+// The row whose name has this number, of n rows. The names stand one behind the other, four bytes each; the slot at
 // the number's remainder holds the only row that can have it.
-fn row_of(names: &[u8], slots: &[u8], n: usize, key: u32) -> usize
-    ensures { result ≡ row_of key (keys_of names.now slots.now n) }
+fn row_of(names: &[u8], slots: &[u8], n: usize, key: u32) -> Option<usize>
+    ensures { IsRow n (row_of key (keys_of names.now slots.now n)) result }
 {
     let m = slots.len();
     if m == 0 {
-        return n;
+        return None;
     }
-    let row = wide(slots[key as usize % m]);
-    if row < n {
-        if fields::read32(names, 4 * row) == key {
-            return row;
-        }
+    let row = usize::from(slots[key as usize % m]);
+    if row < n && fields::read32(names, 4 * row) == key {
+        return Some(row);
     }
-    n
+    None
 }
 
 // An item is noted in the row of its name. The first one stays, and an unknown item is passed over.
@@ -45,8 +37,7 @@ fn note(
     ensures { (starts.new ≡ noted_at (row_of key (keys_of names.now slots.now (length starts.old))) start starts.old starts.old) × (bits.new ≡ noted_at (row_of key (keys_of names.now slots.now (length starts.old))) size starts.old bits.old) × (key < 2 ^ 32) }
 {
     let n = starts.len();
-    let i = row_of(names, slots, n, key);
-    if i < n {
+    if let Some(i) = row_of(names, slots, n, key) {
         if starts[i] == 0 {
             starts[i] = start;
             bits[i] = size;
@@ -60,6 +51,7 @@ fn note_all(s: &[u8], names: &[u8], slots: &[u8], starts: &mut [usize], bits: &m
     ensures { (result ≡ (cut_of s.now).stop) × (result ≤ length s.now) × (starts.new ≡ starts_after (keys_of names.now slots.now (length starts.old)) (cut_of s.now).items starts.old bits.old) × (bits.new ≡ bits_after (keys_of names.now slots.now (length starts.old)) (cut_of s.now).items starts.old bits.old) }
 {
     let mut at: usize = 0;
+    // Kept: a loop, for the answer is the offset where the items stop, as in items::walk.
     loop {
         let n = items::size_at(s, at);
         if n == 0 {
@@ -73,6 +65,7 @@ fn note_all(s: &[u8], names: &[u8], slots: &[u8], starts: &mut [usize], bits: &m
 }
 
 // The same of any two slices: where their lengths differ they are left as they are.
+// Kept: two slices, since docs/PROMISES.md (tag_spots) and starts_for and bits_for say what is left where their lengths differ.
 pub fn find_all(
     s: &[u8],
     names: &[u8],

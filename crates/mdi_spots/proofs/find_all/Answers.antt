@@ -8,4 +8,4 @@ use Rattle.mdi_spots.proofs.find_all.Goals as goal
 
 pub returns : goal.returns
 unfolding keys_of key_at number_at big_of
-returns c = found c.args.s.now _ _ _ _ (λ j. omega (arith, c.shared_slice_known-1.given j)) refl c.find_all-stop.ensures
+returns c = found c.args.s.now _ _ _ _ (λ j. omega (arith, c.type_inv.s j)) refl c.find_all-stop.ensures
