@@ -9,16 +9,17 @@ use borrow.Author.Tests.{eq-eqb, ne_eqb, lt-ltb, le-ltb, eqb-true, eqb-false, lt
 use lib.Dec.{ltb, eqb}
 use lib.ListN.{length, get_or}
 use lib.Seq.{get_or-take, length-take-le}
+use Rattle.std.specs.Option.{SomeIff, unwrap_or}
+use Rattle.std.specs.Prelude.{Option, Some, None}
 use Rattle.queue.specs.Queue.{add_up, same, units, unsent, lengths, any_empty, any_over, broken}
 use Rattle.queue.specs.Send.{AllPos}
 use Rattle.queue.specs.declared.Queue.{Queue}
 use Rattle.laws.proofs.Flags.{or_true, or_none, or_false}
 
-pub rest_zero : (x p : ℕ) → p ≡ 0 → x ≡ x % p
-rest_zero x p e = rw e (sym (mod-zero x))
-
-pub rest_is : (x p w : ℕ) → w ≡ p → x % w ≡ x % p
-rest_is x p w e = ap (λ (k : ℕ). x % k) e
+-- the rest of x by w, and x where w is 0
+pub rest_is : (x p w r : ℕ) (o : Option ℕ) → w ≡ p → SomeIff o (0 < w) (x % w) → r ≡ unwrap_or o x → r ≡ x % p
+rest_is x p w r None e s u = let z : p ≡ 0 = omega (arith, s) in u ∙ rw z (sym (mod-zero x))
+rest_is x p w r (Some y) e s u = u ∙ s.1 ∙ ap (λ (k : ℕ). x % k) e
 
 -- ---- a unit over 4,096 long
 none_over : (xs : List ℕ) → add_up same xs ≤ 4096 → any_over 4096 xs ≡ false

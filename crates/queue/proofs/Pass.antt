@@ -1,5 +1,5 @@
 -- One pass over a queue's units: none of the first i is empty, and their bytes, or bytes and packets, are added up. Assumes nothing.
-use Prim.Native.Nat.{ℕ, ◌+◌, ◌<◌, ◌≤◌, min}
+use Prim.Native.Nat.{ℕ, ◌+◌, ◌<◌, ◌≤◌}
 use mathlib.Core.Path.{◌≡◌, refl, sym, ◌∙◌}
 use mathlib.Core.List.{List}
 use mathlib.Core.Bool.{Bool, true, false}
@@ -7,60 +7,56 @@ use native.Mathlib.Omega.{arith}
 use borrow.Author.Tests.{eq-eqb, ne_eqb}
 use lib.ListN.{length, get_or}
 use Rattle.laws.proofs.Flags.{or_true, or_none}
-use Rattle.queue.specs.Queue.{same, packets, units, unsent, waiting, any_empty, broken}
+use Rattle.queue.specs.Queue.{same, packets, units, unsent, waits, waiting, any_empty, broken}
 use Rattle.queue.specs.Stored.{miscounts, wrong}
 use Rattle.queue.specs.declared.Queue.{Queue}
-use Rattle.queue.proofs.Sums.{Summed, summed_none, summed_more, summed_bytes, summed_packets, Sought, sought_none, sought_more, sought_found, sought_all}
+use Rattle.queue.proofs.Sums.{Summed, summed_none, summed_more, summed_all, Sought, sought_none, sought_more, sought_found, sought_all}
 use Rattle.queue.proofs.Faults.{broken_count, broken_empty}
 
 -- ---- the units and their bytes
-pub record Pass (l : List ℕ) (n i bytes : ℕ) : Type 0 where
-  pub none : Sought l n i
-  pub bytes_are : Summed same l n 65535 i bytes
+pub record Pass (us : List ℕ) (i bytes : ℕ) : Type 0 where
+  pub none : Sought us i
+  pub bytes_are : Summed same us i bytes
 
-pub pass_none : (l : List ℕ) (n : ℕ) → n ≤ 8 → Pass l n 0 0
-pass_none l n h = record { none = sought_none l n h; bytes_are = summed_none same l n 65535 h }
+pub pass_none : (us : List ℕ) → Pass us 0 0
+pass_none us = record { none = sought_none us; bytes_are = summed_none same us }
 
-pub pass_more : (l : List ℕ) (n i bytes x : ℕ) → length l ≡ 8 → i < n → x ≡ get_or l i 0 → x ≤ 65535 → (x ≡ 0 → ⊥) → Pass l n i bytes → Pass l n (i + 1) (bytes + x)
-pass_more l n i bytes x l8 h ex hx hz k =
-    record {
-      none = sought_more l n i l8 h (λ z. hz (ex ∙ z)) k.none;
-      bytes_are = summed_more same l n 65535 i bytes x x l8 h ex refl hx k.bytes_are;
-    }
+pub pass_more : (us : List ℕ) (i bytes x : ℕ) → i < length us → x ≡ get_or us i 0 → x ≤ 65535 → (get_or us i 0 ≡ 0 → ⊥) → Pass us i bytes
+    → Pass us (i + 1) (bytes + x)
+pass_more us i bytes x h ex hx hz k =
+    record { none = sought_more us i h hz k.none; bytes_are = summed_more same us i bytes x x h ex refl hx k.bytes_are }
 
 -- ---- and their packets
-pub record Counted (p : ℕ) (l : List ℕ) (n i bytes sum : ℕ) : Type 0 where
-  pub pass : Pass l n i bytes
-  pub sum_is : Summed (packets p) l n 65535 i sum
+pub record Counted (p : ℕ) (us : List ℕ) (i bytes sum : ℕ) : Type 0 where
+  pub pass : Pass us i bytes
+  pub sum_is : Summed (packets p) us i sum
 
-pub counted_none : (p : ℕ) (l : List ℕ) (n : ℕ) → n ≤ 8 → Counted p l n 0 0 0
-counted_none p l n h = record { pass = pass_none l n h; sum_is = summed_none (packets p) l n 65535 h }
+pub counted_none : (p : ℕ) (us : List ℕ) → Counted p us 0 0 0
+counted_none p us = record { pass = pass_none us; sum_is = summed_none (packets p) us }
 
-pub counted_more : (p : ℕ) (l : List ℕ) (n i bytes sum x y : ℕ) → length l ≡ 8 → i < n → x ≡ get_or l i 0 → x ≤ 65535 → (x ≡ 0 → ⊥) → y ≡ packets p x → y ≤ x
-    → Counted p l n i bytes sum → Counted p l n (i + 1) (bytes + x) (sum + y)
-counted_more p l n i bytes sum x y l8 h ex hx hz ey hy k =
+pub counted_more : (p : ℕ) (us : List ℕ) (i bytes sum x y : ℕ) → i < length us → x ≡ get_or us i 0 → x ≤ 65535 → (get_or us i 0 ≡ 0 → ⊥) → y ≡ packets p x
+    → y ≤ x → Counted p us i bytes sum → Counted p us (i + 1) (bytes + x) (sum + y)
+counted_more p us i bytes sum x y h ex hx hz ey hy k =
     record {
-      pass = pass_more l n i bytes x l8 h ex hx hz k.pass;
-      sum_is = summed_more (packets p) l n 65535 i sum x y l8 h ex ey (omega arith) k.sum_is;
+      pass = pass_more us i bytes x h ex hx hz k.pass;
+      sum_is = summed_more (packets p) us i sum x y h ex ey (omega arith) k.sum_is;
     }
 
 -- ---- what is answered within it, and what it found
-module _ (p : ℕ) (q : Queue) (l8 : length q.left ≡ 8) (h : q.count ≤ 8) where
-  few : q.count ≡ min q.count 8
-  few = omega arith
+module _ (p : ℕ) (q : Queue) where
+  pub pass_empty : (i : ℕ) → i < length (units q) → get_or (units q) i 0 ≡ 0 → true ≡ broken p q
+  pass_empty i k z = broken_empty p q true (sought_found (units q) i k z) refl
 
-  pub pass_empty : (i x : ℕ) → i < q.count → x ≡ get_or q.left i 0 → x ≡ 0 → true ≡ broken p q
-  pass_empty i x k ex z = broken_empty p q true (sought_found q q.count i l8 few k (sym ex ∙ z)) refl
-
-  module _ (i bytes : ℕ) (over : q.count ≤ i) where
-    module _ (k : Pass q.left q.count i bytes) where
+  module _ (i bytes : ℕ) (over : length (units q) ≤ i) where
+    module _ (k : Pass (units q) i bytes) where
       pub pass_some : any_empty (units q) ≡ false
-      pass_some = sym (sought_all q q.count i l8 few over k.none)
+      pass_some = sym (sought_all (units q) i over k.none)
 
       pub pass_bytes : bytes ≡ unsent q
-      pass_bytes = summed_bytes q q.count i bytes 65535 l8 few over k.bytes_are
+      unfolding unsent
+      pass_bytes = summed_all same (units q) i bytes over k.bytes_are
 
-    module _ (sum : ℕ) (k : Counted p q.left q.count i bytes sum) where
+    module _ (sum : ℕ) (k : Counted p (units q) i bytes sum) where
       pub counted_some : any_empty (units q) ≡ false
       counted_some = pass_some k.pass
 
@@ -68,7 +64,8 @@ module _ (p : ℕ) (q : Queue) (l8 : length q.left ≡ 8) (h : q.count ≤ 8) wh
       counted_bytes = pass_bytes k.pass
 
       sum_here : sum ≡ waiting p q
-      sum_here = summed_packets p q q.count i sum 65535 l8 few over k.sum_is
+      unfolding waiting waits
+      sum_here = summed_all (packets p) (units q) i sum over k.sum_is
 
       module _ (stored c : ℕ) (ec : c ≡ stored) where
         pub wrong_sum : (c ≡ sum → ⊥) → true ≡ wrong p q stored
@@ -88,5 +85,5 @@ module _ (p : ℕ) (q : Queue) (stored : ℕ) where
   pub wrong_count_law : 8 < q.count → true ≡ wrong p q stored
   wrong_count_law h = wrong_if p q stored (broken_count p q h)
 
-  pub wrong_empty : length q.left ≡ 8 → q.count ≤ 8 → (i x : ℕ) → i < q.count → x ≡ get_or q.left i 0 → x ≡ 0 → true ≡ wrong p q stored
-  wrong_empty l8 h i x k ex z = wrong_if p q stored (pass_empty p q l8 h i x k ex z)
+  pub wrong_empty : (i : ℕ) → i < length (units q) → get_or (units q) i 0 ≡ 0 → true ≡ wrong p q stored
+  wrong_empty i k z = wrong_if p q stored (pass_empty p q i k z)

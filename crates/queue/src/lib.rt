@@ -15,37 +15,22 @@ pub struct Queue {
     pub sent: usize,
 }
 
-fn wide(x: u16) -> usize
-    ensures { (result ≡ x) × (result ≤ 65535) }
-{
-    x as usize
-}
-
 fn packets_of(p: u8, x: usize) -> usize
     requires { x ≤ 65535 }
     ensures { (result ≡ packets p x) × (result ≤ x) }
 {
     if p == 0 {
-        return 0;
+        0
+    } else {
+        x.div_ceil(usize::from(p))
     }
-    let w = p as usize;
-    (x + (w - 1)) / w
 }
 
 // The packets of p data bytes that x bytes take.
 pub fn packets(p: u8, x: u16) -> u16
     ensures { (result ≡ packets p x) × (result ≤ x) }
 {
-    packets_of(p, wide(x)) as u16
-}
-
-fn rest(x: usize, p: u8) -> usize
-    ensures { result ≡ x % p }
-{
-    if p == 0 {
-        return x;
-    }
-    x % (p as usize)
+    packets_of(p, usize::from(x)) as u16
 }
 
 impl Queue {
@@ -53,9 +38,8 @@ impl Queue {
     pub fn fresh() -> Queue
         ensures { result ≡ no_units }
     {
-        let left = [0u16; 8];
         Queue {
-            left: left,
+            left: [0; 8],
             count: 0,
             sent: 0,
         }
@@ -65,20 +49,17 @@ impl Queue {
     fn used(self) -> usize
         ensures { (result ≡ min self.count 8) × (result ≤ 8) }
     {
-        if self.count <= 8 { self.count } else { 8 }
+        self.count.min(8)
     }
 
     // The bytes not yet sent.
     pub fn unsent(self) -> usize
         ensures { (result ≡ unsent self) × (result ≤ 524280) }
     {
-        let n = self.used();
-        let left = self.left;
-        let mut i = 0;
+        let units = &self.left[..self.used()];
         let mut bytes: usize = 0;
-        while i < n {
-            bytes += wide(left[i]);
-            i += 1;
+        for unit in units {
+            bytes += usize::from(*unit);
         }
         bytes
     }
@@ -89,21 +70,15 @@ impl Queue {
         ensures { result ≡ broken p self }
     {
         let sent = self.sent;
-        if 4096 < bytes {
-            return true;
-        }
-        // More than a unit can have: a fault with a first unit and without one, and from here on the sum fits.
-        if 4096 < sent {
-            return true;
-        }
-        if rest(sent, p) != 0 {
+        // More sent than a unit can have is a fault with a first unit and without one, and from here on the sum fits.
+        if 4096 < bytes || 4096 < sent || sent.checked_rem(usize::from(p)).unwrap_or(sent) != 0 {
             return true;
         }
         if self.count == 0 {
             return 0 < sent;
         }
         // The first unit's length is what is left and what is sent.
-        4096 < wide(self.left[0]) + sent
+        4096 < usize::from(self.left[0]) + sent
     }
 
     // One of the faults of refusal 17, in one pass over the units.
@@ -114,16 +89,13 @@ impl Queue {
         if 8 < n {
             return true;
         }
-        let left = self.left;
-        let mut i = 0;
+        let units = &self.left[..n];
         let mut unsent: usize = 0;
-        while i < n {
-            let x = wide(left[i]);
-            if x == 0 {
+        for unit in units {
+            if *unit == 0 {
                 return true;
             }
-            unsent += x;
-            i += 1;
+            unsent += usize::from(*unit);
         }
         self.is_over(p, unsent)
     }
@@ -132,40 +104,33 @@ impl Queue {
     pub fn is_wrong(self, p: u8, stored: u16) -> bool
         ensures { result ≡ wrong p self stored }
     {
-        let there = self.count;
-        if 8 < there {
+        if 8 < self.count {
             return true;
         }
-        let left = self.left;
-        let mut i = 0;
+        let units = &self.left[..self.count];
         let mut unsent: usize = 0;
         let mut sum: usize = 0;
-        while i < there {
-            let unit = wide(left[i]);
-            if unit == 0 {
+        for unit in units {
+            let bytes = usize::from(*unit);
+            if bytes == 0 {
                 return true;
             }
-            unsent += unit;
-            sum += packets_of(p, unit);
-            i += 1;
+            unsent += bytes;
+            sum += packets_of(p, bytes);
         }
-        if wide(stored) != sum {
-            return true;
-        }
-        self.is_over(p, unsent)
+        usize::from(stored) != sum || self.is_over(p, unsent)
     }
 
     // One unit of n unsent more, where there are fewer than eight.
     pub fn pushed(self, n: u16) -> Queue
         ensures { result ≡ pushed self n }
     {
-        let at = self.count;
-        if 8 <= at {
+        if 8 <= self.count {
             return self;
         }
         let mut r = self;
-        r.left[at] = n;
-        r.count = at + 1;
+        r.left[r.count] = n;
+        r.count += 1;
         r
     }
 
@@ -176,8 +141,7 @@ impl Queue {
         if self.count == 0 {
             return 0;
         }
-        let x = wide(self.left[0]);
-        if x <= p { x } else { p }
+        usize::from(self.left[0]).min(p)
     }
 
     // The queue without its first unit.
@@ -185,10 +149,9 @@ impl Queue {
         requires { 1 ≤ self.count }
         ensures { result ≡ drop_first self }
     {
-        let l = self.left;
-        let w = [l[1], l[2], l[3], l[4], l[5], l[6], l[7], 0];
+        let [_, b, c, d, e, f, g, h] = self.left;
         Queue {
-            left: w,
+            left: [b, c, d, e, f, g, h, 0],
             count: self.count - 1,
             sent: 0,
         }
@@ -198,10 +161,7 @@ impl Queue {
     pub fn pop(self, p: u16) -> Queue
         ensures { result ≡ pop_for p self }
     {
-        if 4096 < self.sent {
-            return self;
-        }
-        if self.count == 0 {
+        if 4096 < self.sent || self.count == 0 {
             return self;
         }
         let x = self.left[0];
@@ -210,7 +170,7 @@ impl Queue {
         }
         let mut r = self;
         r.left[0] = x - p;
-        r.sent = self.sent + wide(p);
+        r.sent = self.sent + usize::from(p);
         r
     }
 }

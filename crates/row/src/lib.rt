@@ -21,12 +21,6 @@ pub struct Out {
     pub index: u8,
 }
 
-fn wide(x: u16) -> usize
-    ensures { (result ≡ x) × (result ≤ 65535) }
-{
-    x as usize
-}
-
 // The start of a ring of size bytes: one past its end is its front.
 fn within(size: usize, start: usize) -> usize
     ensures { (result ≡ pick (ltb size start) 0 start) × (result ≤ size) }
@@ -87,11 +81,9 @@ fn step_out(o: Out, p: u16, id: u8, ring: &[u8], start: usize, dst: &mut [u8]) -
     ensures value { result ≡ stepped p o }
     ensures dst_after { dst.new ≡ packet_at p id (turned start ring.now) o }
 {
-    let at = o.at;
-    let q = o.q;
-    let index = o.index;
+    let Out { q, at, index } = o;
     let x = first_left(q);
-    let w = wide(p);
+    let w = usize::from(p);
     let n = q.head_len(w);
     let from = place(ring.len(), start, at);
     write_from(w, q.sent == 0, x <= p, id, index, ring, from, n, dst);
@@ -107,22 +99,10 @@ fn step_out(o: Out, p: u16, id: u8, ring: &[u8], start: usize, dst: &mut [u8]) -
 fn is_fit(q: Queue, index: u8, p: u8, id: u8, n: usize, room: usize, size: usize) -> bool
     ensures { result ≡ fits p id n q index room size }
 {
-    if p == 0 {
+    if p == 0 || 3 < id || 7 < index || q.is_broken(p) || room < q.unsent() {
         return false;
     }
-    if 3 < id {
-        return false;
-    }
-    if 7 < index {
-        return false;
-    }
-    if q.is_broken(p) {
-        return false;
-    }
-    if room < q.unsent() {
-        return false;
-    }
-    n <= size / (p as usize + 3)
+    n <= size / (usize::from(p) + 3)
 }
 
 // The next n packets of a queue, to the front of dst.
@@ -131,14 +111,12 @@ fn write_row(o: Out, p: u16, id: u8, n: usize, ring: &[u8], start: usize, dst: &
     ensures value { result ≡ steps p n o }
     ensures dst_after { dst.new ≡ written dst.old 0 (outs p id (turned start ring.now) n o) }
 {
-    let w = wide(p) + 3;
+    let w = usize::from(p) + 3;
     let mut r = o;
     let mut at = 0;
-    let mut j = 0;
-    while j < n {
+    for _ in 0..n {
         r = step_out(r, p, id, ring, start, &mut dst[at..at + w]);
         at += w;
-        j += 1;
     }
     r
 }
@@ -158,11 +136,7 @@ pub fn row(
     ensures value { result ≡ row_for p id n q index (length ring.now) (length dst.old) }
     ensures dst_after { dst.new ≡ row_out p id n q index (turned start ring.now) dst.old }
 {
-    let o = Out {
-        q: q,
-        at: 0,
-        index: index,
-    };
+    let o = Out { q, at: 0, index };
     if !is_fit(q, index, p, id, n, ring.len(), dst.len()) {
         return o;
     }

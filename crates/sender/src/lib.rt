@@ -31,6 +31,7 @@ pub struct Front {
 // What callers hold from one call to the next: 01's part, and beside it for each queue the packets that wait in it (E1), for whoever
 // shows them, and the place in its part of the store where its unsent bytes begin (E9). Load and frame keep both, and refuse a state in
 // which a count is wrong or a start is past 4,095.
+// Kept: it crosses to C by value, as Loaded and Framed do: host/keshgurvat.h.
 #[repr(C)]
 #[derive(Clone, Copy)]
 pub struct Sender {
@@ -113,7 +114,7 @@ fn behind(start: u16, bytes: usize) -> usize
     requires { bytes ≤ 524280 }
     ensures { (result ≡ (start + bytes) % 4096) × (result < 4096) }
 {
-    (start as usize + bytes) % 4096
+    (usize::from(start) + bytes) % 4096
 }
 
 // The unit's bytes into the ring of queue id, from place at on.
@@ -197,13 +198,11 @@ impl Sender {
             return true;
         }
         let w = self.waiting;
-        let mut id: usize = 0;
-        while id < 3 {
+        for id in 0..3 {
             let q = self.q[id];
             if q.is_wrong(p, w[id]) {
                 return true;
             }
-            id += 1;
         }
         if 2 < self.turn {
             return true;

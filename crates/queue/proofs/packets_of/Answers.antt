@@ -6,5 +6,5 @@ use Rattle.queue.proofs.packets_of.Goals as goal
 pub returns-then-p-eq0 : goal.returns-then-p-eq0
 returns-then-p-eq0 c = search (packets_none, rules)
 
-pub returns : goal.returns
-returns c = search (packets_is, packets_fit, rules)
+pub returns-else-p-eq0 : goal.returns-else-p-eq0
+returns-else-p-eq0 c = search (packets_is, packets_fit, rules)

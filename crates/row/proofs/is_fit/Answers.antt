@@ -2,21 +2,17 @@
 use borrow.Author.Rules.{rules}
 use Rattle.row.proofs.Steps.{unfit_p, unfit_id, unfit_index, unfit_queue, unfit_room, fit_rest}
 use Rattle.row.proofs.is_fit.Goals as goal
+use Rattle.row.proofs.is_fit.Goals.{then-p-eq0-via-then-p-eq0, then-p-eq0-via-else-p-eq0+then-id-gt3, then-p-eq0-via-else-p-eq0+else-id-gt3+then-index-gt7, then-p-eq0-via-else-p-eq0+else-id-gt3+else-index-gt7+then-is_broken, then-p-eq0-via-else-p-eq0+else-id-gt3+else-index-gt7+else-is_broken+then-room-unsent}
 
 pub returns-then-p-eq0 : goal.returns-then-p-eq0
-returns-then-p-eq0 c = search unfit_p
-
-pub returns-then-id-gt3 : goal.returns-then-id-gt3
-returns-then-id-gt3 c = search unfit_id
-
-pub returns-then-index-gt7 : goal.returns-then-index-gt7
-returns-then-index-gt7 c = search unfit_index
-
-pub returns-then-is_broken : goal.returns-then-is_broken
-returns-then-is_broken c = search unfit_queue
-
-pub returns-then-room-unsent : goal.returns-then-room-unsent
-returns-then-room-unsent c = search unfit_room
+returns-then-p-eq0 c =
+    elim c.then-p-eq0.branch [
+      | then-p-eq0-via-then-p-eq0 w ↦ search unfit_p
+      | then-p-eq0-via-else-p-eq0+then-id-gt3 w ↦ search unfit_id
+      | then-p-eq0-via-else-p-eq0+else-id-gt3+then-index-gt7 w ↦ search unfit_index
+      | then-p-eq0-via-else-p-eq0+else-id-gt3+else-index-gt7+then-is_broken w ↦ search unfit_queue
+      | then-p-eq0-via-else-p-eq0+else-id-gt3+else-index-gt7+else-is_broken+then-room-unsent w ↦ search unfit_room
+    ]
 
 pub returns : goal.returns
-returns c = search (fit_rest, rules)
+returns c = rw c.from.ensures (search (fit_rest, rules))

@@ -1,11 +1,7 @@
--- What the loop of `write_row` keeps, and how it ends. Assumes nothing.
-use Prim.Native.Nat.{◌-◌}
+-- What the loop of `write_row` keeps. Assumes nothing.
 use Rattle.ring.specs.Ring.{turned}
 use Rattle.row.proofs.Steps.{Writing}
 use Rattle.row.proofs.write_row.Given as goal
 
-abbrev pub invariant-loop-j : goal.invariant-loop-j
-invariant-loop-j l = Writing l.p l.id l.n (turned l.start l.ring) l.initial.dst l.w l.initial.r l.dst l.r l.at l.j
-
-abbrev pub decreases-loop-j : goal.decreases-loop-j
-decreases-loop-j l = l.n - l.j
+abbrev pub invariant-loop : goal.invariant-loop
+invariant-loop l = Writing l.p l.id l.n (turned l.start l.ring) l.initial.dst l.w l.initial.r l.dst l.r l.at l.counter

@@ -1,10 +1,6 @@
--- What the loop of `Queue.is_broken` keeps, and how it ends. Assumes nothing.
-use Prim.Native.Nat.{◌-◌}
+-- What the loop of `Queue.is_broken` keeps. Assumes nothing.
 use Rattle.queue.proofs.Pass.{Pass}
 use Rattle.queue.proofs.Queue.is_broken.Given as goal
 
-abbrev pub invariant-loop-i : goal.invariant-loop-i
-invariant-loop-i l = Pass l.left l.n l.i l.unsent
-
-abbrev pub decreases-loop-i : goal.decreases-loop-i
-decreases-loop-i l = l.n - l.i
+abbrev pub invariant-loop-unit : goal.invariant-loop-unit
+invariant-loop-unit l = Pass l.units l.unit-index l.unsent

@@ -1,10 +1,6 @@
--- What the loop of `Queue.is_wrong` keeps, and how it ends. Assumes nothing.
-use Prim.Native.Nat.{◌-◌}
+-- What the loop of `Queue.is_wrong` keeps. Assumes nothing.
 use Rattle.queue.proofs.Pass.{Counted}
 use Rattle.queue.proofs.Queue.is_wrong.Given as goal
 
-abbrev pub invariant-loop-i : goal.invariant-loop-i
-invariant-loop-i l = Counted l.p l.left l.there l.i l.unsent l.sum
-
-abbrev pub decreases-loop-i : goal.decreases-loop-i
-decreases-loop-i l = l.there - l.i
+abbrev pub invariant-loop-unit : goal.invariant-loop-unit
+invariant-loop-unit l = Counted l.p l.units l.unit-index l.unsent l.sum
