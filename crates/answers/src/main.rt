@@ -2,8 +2,8 @@
 // same cases from the documents alone, and the two are compared. Nothing here decides an answer: each group of calls is a library answer_*.
 #![tactic(auto)]
 
-use cases::{answer, case};
 use cases::input::{self, Case};
+use cases::{answer, case};
 use std::io::Read;
 
 // The answer to one case, at the front of out. What is no call of docs/CASES.md is none of the simple ones either, and answered so.
