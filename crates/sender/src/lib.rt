@@ -180,14 +180,8 @@ impl Sender {
     fn is_stray(self) -> bool
         ensures { result ≡ strayed self }
     {
-        let start = self.start;
-        if 4095 < start[0] {
-            return true;
-        }
-        if 4095 < start[1] {
-            return true;
-        }
-        4095 < start[2]
+        let [a, b, c] = self.start;
+        4095 < a || 4095 < b || 4095 < c
     }
 
     // One of the faults of refusal 17, a wrong count and a start past 4,095 among them. Each queue's units are gone through once.

@@ -1,4 +1,5 @@
 -- `sender::Sender::is_faulty` meets its contract. Assumes nothing.
+use native.Mathlib.Omega.{arith}
 use borrow.Author.Rules.{rules}
 use Rattle.sender.proofs.Checks.{looked_none, looked_more, faulty_start, faulty_queue, faulty_turn, faulty_index, faulty_rest}
 use Rattle.sender.proofs.Sender.is_faulty.Goals as goal
@@ -13,7 +14,7 @@ pub returns-then-is_wrong : goal.returns-then-is_wrong
 returns-then-is_wrong c = search (faulty_queue, rules)
 
 pub loop-id-preserved : goal.loop-id-preserved
-loop-id-preserved c = looked_more _ _ _ c.loop-id-test.true _ c.is_wrong.ensures c.if-is_wrong.false c.loop-id.invariant
+loop-id-preserved c = looked_more _ _ _ (omega arith) _ c.is_wrong.ensures c.if-is_wrong.false c.loop-id.invariant
 
 pub returns-then-self-gt2 : goal.returns-then-self-gt2
 returns-then-self-gt2 c = search faulty_turn
