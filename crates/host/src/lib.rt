@@ -20,6 +20,7 @@ use sender::{Framed, Loaded, Sender};
 
 // What a packet brought: the number; whether a unit is complete, its id and length, all 0 where none is; the bytes of an open unit that were
 // dropped (02, E5); and the record after the call.
+// Kept: numbers and a flag, here and in the calls below, since C has no enum with fields (host/keshgurvat.h).
 #[repr(C)]
 #[derive(Clone, Copy)]
 pub struct Received {

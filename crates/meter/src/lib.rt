@@ -13,6 +13,7 @@ use record::Record;
 use refusal::Refusal;
 
 // Of a packet read: the number, and what shows that its record was made. The byte is one of the SDC data, 0 where there is none.
+// Kept: numbers, here and in the calls below, since C links them (bench/meter.h); two of them are the host's, in an archive of its own.
 #[repr(C)]
 #[derive(Clone, Copy)]
 pub struct Seen {

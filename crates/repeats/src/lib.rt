@@ -14,6 +14,7 @@ fn descend(keys: &[u32], kids: &[u32], n: usize, key: u32) -> Result<usize, usiz
 {
     let mut node: usize = 0;
     let mut w = key;
+    // Kept: a loop down the tree, from node to node; it counts no index.
     loop {
         if keys[node] == key {
             return Ok(node);
@@ -55,6 +56,7 @@ fn store(s: &[u8], keys: &mut [u32], kids: &mut [u32]) -> Option<Option<usize>>
 {
     let mut n: usize = 0;
     let mut at: usize = 0;
+    // Kept: a loop, as in items::walk; and it ends in three ways, each with an answer of its own.
     loop {
         let k = items::size_at(s, at);
         if k == 0 {

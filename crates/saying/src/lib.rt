@@ -14,7 +14,8 @@ use refusal::{Refusal, Refused};
 const MOST: usize = 256;
 
 // The values are the first `count`.
-// Kept: an array with a length beside it, since the program has no heap, and `begun` and `with` are definitions over it.
+// Kept: a number, since it is that of an answer (docs/CASES.md), and an array with a length beside it, since the program has no heap; `begun` and
+// `with` are definitions over both.
 #[derive(Clone, Copy)]
 pub struct Said {
     pub number: u32,
