@@ -11,6 +11,7 @@ pub fn disperse(input: &[u8], output: &mut [u8]) -> Said {
 }
 
 // The number at an offset; none of another width than 2, 4 and 8.
+// Kept: a match on the width that stands in the case; each arm has a type of its own.
 fn number(s: &[u8], width: u8, at: usize) -> Option<u64> {
     match width {
         2 => Some(u64::from(fields::read16(s, at))),
@@ -26,6 +27,7 @@ pub fn number_read(body: &[u8], s: &[u8]) -> Option<Said> {
     Some(saying::one(0, number(s, width, at)?))
 }
 
+// Kept: a match on the width that stands in the case; each arm has a type of its own.
 fn store(dst: &mut [u8], width: u8, at: usize, v: u64) -> Option<bool> {
     match width {
         2 => Some(fields::write16(dst, at, (v % 65536) as u16)),

@@ -14,6 +14,7 @@ struct Form {
     lends: bool,
 }
 
+// Kept: a match on the number of a case; the arms are numbers, and nothing is run.
 fn form_of(call: u8) -> Form {
     let (head, reads, lends) = match call {
         14 => (28, false, false),
@@ -44,6 +45,7 @@ fn form_of(call: u8) -> Form {
 }
 
 // What a call says. The body goes on at `between` behind the buffer that it reads.
+// Kept: a match on the number of a case (docs/CASES.md): each arm has arguments of its own, so no closure could stand for all.
 fn say(call: u8, body: &[u8], between: usize, s: &[u8], dst: &mut [u8]) -> Option<Said> {
     let said = match call {
         1 => saying::one(0, u64::from(crc::crc8(s))),

@@ -9,6 +9,7 @@ use saying::Said;
 const STEPS: u8 = 24;
 
 // The buffers that an answer gives.
+// Kept: a match on the number of a case; the arms are numbers, and nothing is run.
 fn buffers(call: u8) -> u8 {
     match call {
         35 => 2,
@@ -30,6 +31,7 @@ fn script(call: u8, body: &[u8], at: usize, one: &mut [u8], two: &mut [u8]) -> O
 }
 
 // Bytes before the first buffer, or before the number of steps; none of another call.
+// Kept: a match on the number of a case; the arms are numbers, and nothing is run.
 fn head(call: u8) -> Option<usize> {
     match call {
         35 => Some(120),

@@ -3,6 +3,7 @@
 
 use stream_values::Run;
 
+// Kept: a match on the number of a case (docs/CASES.md): each arm has arguments of its own, so no closure could stand for all.
 fn step(r: Run, call: u8, body: &[u8], one: &mut [u8], two: &mut [u8]) -> Option<Run> {
     match call {
         35 => stream_sending::send(r, body, one, two),

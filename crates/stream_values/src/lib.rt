@@ -168,6 +168,7 @@ pub fn begun(call: u8, body: &[u8], at: usize) -> Run {
 }
 
 // What was said of the steps, and the state after the last.
+// Kept: a match on the number of a case (docs/CASES.md): each arm has arguments of its own, so no closure could stand for all.
 pub fn told(r: Run, call: u8) -> Said {
     match call {
         35 => tell_sender(r.said, r.sender),
