@@ -2,7 +2,8 @@
 // the library, and says what came back.
 #![tactic(auto)]
 
-ghost use Rattle.std.specs.Prelude.{◌≡◌};
+ghost use Rattle.std.specs.Prelude.{◌≡◌, slice_index};
+ghost use Rattle.laws.specs.Big.{number_at};
 ghost use Rattle.answer_description.specs.Values.{lengths_in, description_in};
 
 use cases::case;
@@ -116,7 +117,11 @@ pub struct FrameHead {
     pub mode: u8,
 }
 
-pub fn frame_head(body: &[u8]) -> FrameHead {
+pub fn frame_head(body: &[u8]) -> FrameHead
+    ensures capacity { result.capacity ≡ number_at 8 body.now 0 }
+    ensures description { result.description ≡ description_in body.now 8 }
+    ensures mode { result.mode ≡ slice_index body.now 27 }
+{
     FrameHead {
         capacity: fields::read64(body, 0) as usize,
         description: description_at(body, 8),

@@ -92,7 +92,7 @@ fn stream(body: &[u8], out: &mut [u8]) -> Option<usize> {
 }
 
 // The answer to a case of this group, at the front of out.
-// Kept: a match on the number of a case (docs/CASES.md): each arm has arguments of its own, so no closure could stand for all.
+// Kept: a match on the number of a case (docs/CASES.md); in a table of functions the same numbers and names would stand, and a search.
 pub fn answer(call: u8, body: &[u8], out: &mut [u8]) -> usize {
     let size = match call {
         40 => read(body, out),

@@ -7,7 +7,7 @@ use cases::{answer, case};
 use std::io::Read;
 
 // The answer to one case, at the front of out. What is no call of docs/CASES.md is none of the simple ones either, and answered so.
-// Kept: a match on the number of a case (docs/CASES.md): each arm has arguments of its own, so no closure could stand for all.
+// Kept: a match on the number of a case (docs/CASES.md); in a table of functions the same numbers and names would stand, and a search.
 fn answer_to(call: u8, body: &[u8], out: &mut [u8]) -> usize {
     match call {
         16 => answer_frame::answer(call, body, out),

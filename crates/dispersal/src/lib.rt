@@ -30,7 +30,7 @@ pub fn disperse(input: &[u8], output: &mut [u8]) -> Result<(), Refusal>
     }
     // Nine ones, and above them the nine bits that the rule, read backwards, gives before them: 011110000.
     let mut bits: u32 = 0x1e1ff;
-    // Kept: the output goes by its index, since nothing is proved of what a zip with iter_mut leaves.
+    // Kept: the output goes by its index: std promises nothing of the bytes behind an adapter of iter_mut, so `memory` would not follow.
     for (i, byte) in input.iter().enumerate() {
         let more = eight_more(bits);
         output[i] = byte ^ (more % 256) as u8;

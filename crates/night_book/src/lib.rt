@@ -3,6 +3,8 @@
 
 mod table;
 
+ghost use Rattle.std.specs.Prelude.{◌≡◌};
+
 use hand::Three;
 use night_plan::{Plan, over};
 pub use table::refuse;
@@ -65,7 +67,10 @@ pub struct Book {
 
 impl Book {
     // Before the first frame.
-    pub fn new(plan: Plan) -> Book {
+    pub fn new(plan: Plan) -> Book
+        ensures plan { result.plan ≡ plan }
+        ensures frame { result.frame ≡ 0 }
+    {
         Book {
             plan,
             frame: 0,

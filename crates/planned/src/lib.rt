@@ -11,7 +11,7 @@ use plans::Plans;
 use sender::{Loaded, Sender};
 
 // The sender's answer to a frame, and the record of settings after it.
-// Kept: number and values side by side, as the sender's own answers, which cross to C by value.
+// Kept: number and values side by side; it is the sender's Framed with the record added, and a Result would be unpacked from that and packed again.
 #[repr(C)]
 #[derive(Clone, Copy)]
 pub struct Framed {

@@ -89,7 +89,7 @@ impl Plans {
     pub fn hand_out(self, count: u32, waiting: Three, turn: usize) -> Result<Handed, Refusal>
         ensures { handed_in result ≡ plan_hand_for self count waiting turn }
     {
-        self.check()?;
+        self.check()?; // of both sets
         let then = self.in_force(count);
         then.now.hand_out(waiting, turn)
     }

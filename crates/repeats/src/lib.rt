@@ -56,7 +56,7 @@ fn store(s: &[u8], keys: &mut [u32], kids: &mut [u32]) -> Option<Option<usize>>
 {
     let mut n: usize = 0;
     let mut at: usize = 0;
-    // Kept: a loop, as in items::walk; and it ends in three ways, each with an answer of its own.
+    // Kept: a loop; it ends in three ways, each with an answer of its own, and a `for` over the items would have these and a fourth behind it.
     loop {
         let k = items::size_at(s, at);
         if k == 0 {
