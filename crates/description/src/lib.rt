@@ -145,7 +145,7 @@ pub fn ill_formed(d: Description, mode: u8) -> bool
 {
     ((d.count == 0) | (4 < d.count))
         | (d.has_empty() | d.has_more())
-        | (d.is_without_a() & (d.level.a != 0))
+        | (d.level.a != 0 && d.is_without_a())
         | ((mode == 3) & ((1 < d.level.a) | (1 < d.level.b)))
 }
 
