@@ -80,6 +80,13 @@ kit_header() {
 }
 
 step "the archive, proved" build_archive host || finish
+# what README says of it, where there is an nm: the archive calls nothing of the C library but these two
+needs_two_alone() {
+    others=$(nm -u "$archive" | awk '$1 == "U" && $2 != "memcpy" && $2 != "memset" { print $2 }' | sort -u)
+    echo "it needs besides: $others"
+    [ -z "$others" ]
+}
+if command -v nm >/dev/null 2>&1; then step "it needs memcpy and memset alone" needs_two_alone; fi
 for kind in 'c c99' 'c c11' 'c++ c++11' 'c++ c++17'; do
     # shellcheck disable=SC2086
     step "the header as ${kind#* }" kit_header $kind

@@ -1,5 +1,5 @@
 -- What the calls leave. Assumes nothing.
-use mathlib.Core.Path.{◌≡◌, refl, sym, ◌∙◌}
+use mathlib.Core.Path.{◌≡◌, refl, sym, ap, ◌∙◌}
 use mathlib.Core.List.{List}
 use mathlib.Core.Bool.{Bool, true, false, ◌&&◌}
 use Prim.Native.Nat.{ℕ, ◌+◌, ◌-◌, ◌≤◌, ◌<◌}
@@ -7,13 +7,35 @@ use native.Mathlib.Omega.{arith}
 use borrow.Author.Tests.{le-leb, lt-leb, leb-true}
 use lib.Dec.{leb}
 use Rattle.laws.specs.Pick.{pick}
-use lib.ListN.{length, take, drop, replicate, length-drop, length-replicate}
-use lib.Seq.{length-take-le}
+use lib.ListN.{length, get_or, set, take, drop, replicate, length-set, length-drop, length-replicate}
+use lib.Seq.{take_all, length-take-le}
 use Rattle.laws.specs.Written.{written}
-use Rattle.laws.proofs.Written.{written_length}
+use Rattle.laws.proofs.Written.{written_none, written_turn, written_length}
 use borrow.Rule.Slice.PartMut.{put_mid, mid_of}
 use Rattle.moves.specs.Moves.{placed, pulled}
 use Rattle.moves.proofs.Parts.{part_written}
+
+-- the first j bytes of xs stand in e at the offset
+pub record Put (d : List ℕ) (at : ℕ) (xs e : List ℕ) (j : ℕ) : Type 0 where
+  pub within : j ≤ length xs
+  pub is : e ≡ written d at (take j xs)
+  pub same : length e ≡ length d
+
+pub put_none : (d : List ℕ) (at : ℕ) (xs : List ℕ) → Put d at xs d 0
+put_none d at xs = record { within = omega arith; is = sym (written_none d at); same = refl }
+
+pub put_one : (d : List ℕ) (at : ℕ) (xs e : List ℕ) (j v n : ℕ) (room : Bool) → length xs ≡ n → room ≡ leb (at + n) (length d) → room ≡ true → j < n → v ≡ get_or xs j 0
+    → Put d at xs e j → Put d at xs (set e (at + j) v) (j + 1)
+put_one d at xs e j v n room ln f t h q p =
+    let k : at + n ≤ length d = leb-true (at + n) (length d) (sym f ∙ t) in
+    record { within = omega arith; is = written_turn d e at xs j v (omega arith) (omega arith) q p.is; same = length-set e (at + j) v ∙ p.same }
+
+pub put_all : (d : List ℕ) (at : ℕ) (xs e : List ℕ) (j n : ℕ) (room : Bool) → length xs ≡ n → room ≡ leb (at + n) (length d) → room ≡ true → n ≤ j → Put d at xs e j
+    → e ≡ placed d at xs
+unfolding placed
+put_all d at xs e j n room ln f t m p =
+    let k : at + n ≤ length d = leb-true (at + n) (length d) (sym f ∙ t) in
+    simp (le-leb (at + length xs) (length d) (omega arith)) (p.is ∙ ap (written d at) (take_all j xs (omega arith)))
 
 -- in the terms of the calls' test, with n bytes for the length of xs: the part of the slice that they are put in, and where they have no room
 pub put_in : (d : List ℕ) (at : ℕ) (xs : List ℕ) (n : ℕ) (room : Bool) → length xs ≡ n → room ≡ leb (at + n) (length d) → room ≡ true
