@@ -23,66 +23,60 @@ fn print(rt: &impl Print, out: &[u8; 1024], n: usize) -> io::Result<()> {
     rt.write_all(out.get(..n).unwrap_or(&[]))
 }
 
-// One call, and its lines. Gives the bytes taken of the block, and breaks where the recording is refused or a line could not be written.
-fn show(
-    rt: &impl Print,
+// A recording as far as it is read: what is seen of it, the bytes of an entry that is not yet whole, and the lines of the last call. It stays in
+// one place and is lent, since a report is 1,400 bytes, which are copied for each call of `report` as it is.
+#[derive(Drop)]
+struct Run {
     report: Report,
-    work: &mut [u8; ENTRY],
-    block: &[u8],
-) -> ControlFlow<Report, (Report, usize)> {
-    let mut broken = [0u8; 1024];
-    let mut line = [0u8; 1024];
-    let shown = report::feed(report, work, block, &mut broken, &mut line);
-    let _ = print(rt, &broken, shown.broken);
-    let is_written = print(rt, &line, shown.line).is_ok();
-    let report = shown.report;
-    if !is_written || report.walk.number != 0 {
-        return ControlFlow::Break(report);
-    }
-    ControlFlow::Continue((report, shown.taken))
+    work: [u8; ENTRY],
+    broken: [u8; 1024],
+    line: [u8; 1024],
 }
 
-// Hands a block over until all of it is taken. Each call takes a byte at least, so there are no more calls than bytes.
-fn hand_over(
-    rt: &impl Print,
-    report: Report,
-    work: &mut [u8; ENTRY],
-    block: &[u8],
-) -> ControlFlow<Report, Report> {
-    let mut report = report;
-    let mut left = block;
-    for _ in 0..block.len() {
-        let (next, taken) = show(rt, report, work, left)?;
-        report = next;
-        if taken == 0 {
-            break;
+impl Run {
+    // One call, and its lines. Gives the bytes taken of the block, and breaks where the recording is refused or a line could not be written.
+    fn show(&mut self, rt: &impl Print, block: &[u8]) -> ControlFlow<(), usize> {
+        let shown = report::feed(
+            self.report,
+            &mut self.work,
+            block,
+            &mut self.broken,
+            &mut self.line,
+        );
+        self.report = shown.report;
+        let _ = print(rt, &self.broken, shown.broken);
+        let is_written = print(rt, &self.line, shown.line).is_ok();
+        if !is_written || self.report.walk.number != 0 {
+            return ControlFlow::Break(());
         }
-        left = left.get(taken..).unwrap_or(&[]);
+        ControlFlow::Continue(shown.taken)
     }
-    ControlFlow::Continue(report)
-}
 
-// Reads blocks and hands them over, up to the end of the recording. A proved loop has to end, and nothing says that the input does: so the loop
-// has a number of turns that no run uses up.
-fn read_all(
-    rt: &impl Print,
-    input: &mut impl Read,
-    report: Report,
-    work: &mut [u8; ENTRY],
-) -> io::Result<Report> {
-    let mut block = [0u8; BLOCK];
-    let mut report = report;
-    for _ in 0..u64::MAX {
-        let count = input.read(&mut block)?;
-        if count == 0 {
-            break;
+    // Hands a block over until all of it is taken. Each call takes a byte at least, so there are no more calls than bytes.
+    fn hand_over(&mut self, rt: &impl Print, block: &[u8]) -> ControlFlow<()> {
+        let mut left = block;
+        for _ in 0..block.len() {
+            let taken = self.show(rt, left)?;
+            if taken == 0 {
+                break;
+            }
+            left = left.get(taken..).unwrap_or(&[]);
         }
-        match hand_over(rt, report, work, &block[..count]) {
-            ControlFlow::Continue(next) => report = next,
-            ControlFlow::Break(last) => return Ok(last),
-        }
+        ControlFlow::Continue(())
     }
-    Ok(report)
+
+    // Reads blocks and hands them over, up to the end of the recording. A proved loop has to end, and nothing says that the input does: so the
+    // loop has a number of turns that no run uses up.
+    fn read_all(&mut self, rt: &impl Print, input: &mut impl Read) -> io::Result<()> {
+        let mut block = [0u8; BLOCK];
+        for _ in 0..u64::MAX {
+            let count = input.read(&mut block)?;
+            if count == 0 || self.hand_over(rt, &block[..count]).is_break() {
+                break;
+            }
+        }
+        Ok(())
+    }
 }
 
 fn print_end(rt: &impl Print, report: Report) {
@@ -118,12 +112,16 @@ fn begin(input: &mut impl Read) -> io::Result<Report> {
 
 // A recording read to its end, or as far as it is not refused.
 fn read_through(rt: &impl Print, input: &mut impl Read) -> io::Result<Report> {
-    let mut work = [0u8; ENTRY];
-    let report = begin(input)?;
-    if report.walk.number != 0 {
-        return Ok(report);
+    let mut run = Run {
+        report: begin(input)?,
+        work: [0u8; ENTRY],
+        broken: [0u8; 1024],
+        line: [0u8; 1024],
+    };
+    if run.report.walk.number == 0 {
+        run.read_all(rt, input)?;
     }
-    read_all(rt, input, report, &mut work)
+    Ok(run.report)
 }
 
 fn inspect(rt: &(impl Print + Eprint + Alloc), input: &mut impl Read, name: &str) {

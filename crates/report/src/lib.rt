@@ -47,9 +47,9 @@ pub struct Closed {
     pub refusal: usize,
 }
 
+// The bytes of the line of a break and of a packet's own line.
 #[derive(Clone, Copy)]
-struct Told {
-    seen: Seen,
+struct Lines {
     broken: usize,
     line: usize,
 }
@@ -83,29 +83,22 @@ pub fn feed(
     ensures text { line.new ≡ written line.old 0 (line_for r work.old block.now) }
 {
     let f = walk::feed(r.walk, work, block);
-    match f.packet {
-        None => Shown {
-            report: Report {
-                walk: f.walk,
-                seen: r.seen,
-            },
-            taken: f.taken,
-            broken: 0,
-            line: 0,
+    let mut shown = Shown {
+        report: Report {
+            walk: f.walk,
+            seen: r.seen,
         },
-        Some(size) => {
-            let a = saw(r.seen, r.walk.at, walk::packet(work, size), broken, line);
-            Shown {
-                report: Report {
-                    walk: f.walk,
-                    seen: a.seen,
-                },
-                taken: f.taken,
-                broken: a.broken,
-                line: a.line,
-            }
-        }
+        taken: f.taken,
+        broken: 0,
+        line: 0,
+    };
+    if let Some(size) = f.packet {
+        let packet = walk::packet(work, size);
+        let lines = saw(&mut shown.report.seen, r.walk.at, packet, broken, line);
+        shown.broken = lines.broken;
+        shown.line = lines.line;
     }
+    shown
 }
 
 // No byte comes any more: the summary goes to the front of `summary`, and the line of a refusal to the front of `refusal`.
@@ -129,44 +122,43 @@ fn put_refusal(e: Ended, out: &mut [u8; 1024]) -> usize
     inspect_text::refusal(e.number, e.place, out)
 }
 
-// One packet more, whose entry stands at an offset of the file.
-fn saw(s: Seen, at: u64, packet: &[u8], broken: &mut [u8; 1024], line: &mut [u8; 1024]) -> Told
-    ensures after { result.seen ≡ seen_after s (read_for packet.now) }
-    ensures between { Puts broken.old 0 (break_of s (read_for packet.now)) broken.new result.broken }
-    ensures text { Puts line.old 0 (line_of s at (read_for packet.now)) line.new result.line }
+// One packet more, whose entry stands at an offset of the file. What is seen is lent, and so is the packet's answer below: each is over a kilobyte.
+fn saw(
+    seen: &mut Seen,
+    at: u64,
+    packet: &[u8],
+    broken: &mut [u8; 1024],
+    line: &mut [u8; 1024],
+) -> Lines
+    ensures after { seen.new ≡ seen_after seen.old (read_for packet.now) }
+    ensures between { Puts broken.old 0 (break_of seen.old (read_for packet.now)) broken.new result.broken }
+    ensures text { Puts line.old 0 (line_of seen.old at (read_for packet.now)) line.new result.line }
 {
     let a = Answer::from(mdi::read(packet));
-    let n = inspect_text::line(s.tally.packets.wrapping_add(1), at, a, line);
-    let b = put_break(s, a, broken);
-    Told {
-        seen: after(s, a, b),
-        broken: b,
-        line: n,
-    }
+    let n = inspect_text::line(seen.tally.packets.wrapping_add(1), at, a, line);
+    let b = put_break(seen, &a, broken);
+    note(seen, &a, b);
+    Lines { broken: b, line: n }
 }
 
 // The line of a break before this packet, where it was read and one was before.
-fn put_break(s: Seen, a: Answer, out: &mut [u8; 1024]) -> usize
-    ensures { Puts out.old 0 (break_of s a) out.new result }
+fn put_break(seen: &Seen, a: &Answer, out: &mut [u8; 1024]) -> usize
+    ensures { Puts out.old 0 (break_of seen.now a.now) out.new result }
 {
-    if a.number != 0 || !s.any {
+    if a.number != 0 || !seen.any {
         return 0;
     }
-    inspect_text::broken(s.last, a.content, out)
+    inspect_text::broken(seen.last, a.content, out)
 }
 
 // n is the length of the line of a break.
-fn after(s: Seen, a: Answer, n: usize) -> Seen
-    requires { n ≡ length (break_of s a) }
-    ensures { result ≡ seen_after s a }
+fn note(seen: &mut Seen, a: &Answer, n: usize)
+    requires { n ≡ length (break_of seen.old a.now) }
+    ensures { seen.new ≡ seen_after seen.old a.now }
 {
-    let tally = tally::count(s.tally, a, n != 0);
-    if a.number != 0 {
-        return Seen { tally, ..s };
-    }
-    Seen {
-        tally,
-        any: true,
-        last: a.content,
+    seen.tally = tally::count(seen.tally, *a, n != 0);
+    if a.number == 0 {
+        seen.any = true;
+        seen.last = a.content;
     }
 }

@@ -1,9 +1,9 @@
--- `report::after` meets its contract. Assumes nothing.
+-- `report::note` meets its contract. Assumes nothing.
 use Rattle.report.proofs.Ways.{after_refused, after_read}
-use Rattle.report.proofs.after.Goals as goal
+use Rattle.report.proofs.note.Goals as goal
 
-pub returns-then-a-ne0 : goal.returns-then-a-ne0
-returns-then-a-ne0 c = search after_refused
+pub returns-then-a-eq0 : goal.returns-then-a-eq0
+returns-then-a-eq0 c = search after_read
 
-pub returns : goal.returns
-returns c = search after_read
+pub returns-else-a-eq0 : goal.returns-else-a-eq0
+returns-else-a-eq0 c = search after_refused
