@@ -1,19 +1,25 @@
 -- The wrong programs that 01 lists ("Acceptance of the promises"), each as a condition on a function from what a call is handed to its answer
--- and the lent memory after it; and what it is for such a function to meet the promise of the call. Assumes nothing.
-use Rattle.std.specs.Prelude.{ℕ, ◌+◌, ◌<◌, ◌≡◌, List, length, take}
+-- and the lent memory after it; and what it is for such a function to meet the promise of the call. The answer of a call that gives a `Result` is
+-- taken in 01's numbers and values, and the last part says all of it of such a call as it stands. Assumes nothing.
+use Rattle.std.specs.Prelude.{ℕ, ◌+◌, ◌<◌, ◌≡◌, List, length, take, Result}
 use Rattle.laws.specs.Written.{written}
 use Rattle.demand.specs.Bytes.{split, of_id}
 use Rattle.dispersal.specs.Dispersal as dispersal
 use Rattle.hand.specs.Settings.{at}
 use Rattle.hand.specs.declared.Settings.{Settings}
 use Rattle.mdi.specs.declared.Answer.{Answer}
-use Rattle.mdi.specs.Reading.{read_for}
+use Rattle.mdi.specs.Reading.{read_in, read_for}
 use Rattle.packet.specs.Packet.{decode}
 use Rattle.receiver.specs.Answer as heard
-use Rattle.receiver.specs.Answer.{Nothing, Delivered, Refused, Told}
+use Rattle.receiver.specs.Answer.{Nothing, Delivered, Refused, Told, told_of}
+use Rattle.receiver.specs.declared.Told as step
 use Rattle.receiver.specs.declared.Receiver.{Receiver}
 use Rattle.receiver.specs.Receiver.{buffer_for}
 use Rattle.receiver.specs.Dropped.{told_for}
+use Rattle.record.specs.declared.Record.{Record}
+use Rattle.refusal.specs.Refusal.{number_in}
+use Rattle.refusal.specs.declared.Refusal.{Refusal}
+use Rattle.refusal.specs.declared.Refused as placed
 use Rattle.sender.specs.declared.Framed.{Framed}
 use Rattle.sender.specs.declared.Loaded.{Loaded}
 use Rattle.sender.specs.declared.Sender.{Sender}
@@ -119,3 +125,30 @@ Counts f = (g : Settings) (s : Sender) (store out : List ℕ) → Shaped s → (
 -- packet counts invented: they are not those
 abbrev pub Invents : Framer → Type 0
 Invents f = Counts f → ⊥
+
+-- ---- the calls whose answer is a `Result`, of the types that they have in src/: what each says in 01's numbers and values is one of the functions
+-- above, and to meet their promise is to meet the call's `ensures`, word for word
+abbrev pub ReadCall : Type 0
+ReadCall = List ℕ → Result Record placed.Refused
+
+abbrev pub reader_of : ReadCall → Reader
+reader_of f packet = read_in (f packet)
+
+abbrev pub DisperseCall : Type 0
+DisperseCall = List ℕ → List ℕ → Result (Unit {0}) Refusal × List ℕ
+
+abbrev pub disperser_of : DisperseCall → Disperser
+disperser_of f input output = (number_in (f input output).0, (f input output).1)
+
+abbrev pub StepCall : Type 0
+StepCall = ℕ → Receiver → List ℕ → List ℕ → step.Told × List ℕ
+
+abbrev pub listener_of : StepCall → Listener
+listener_of f p r packet buffer = (told_of (f p r packet buffer).0, (f p r packet buffer).1)
+
+-- a call that meets its promise is none of the wrong programs of its kind
+pub record Rejected : Type 0 where
+  pub refuser : (f : ReadCall) → Reads (reader_of f) → RefusesAll (reader_of f) → ⊥
+  pub fixed_record : (f : ReadCall) → Reads (reader_of f) → OneRecord (reader_of f) → ⊥
+  pub copier : (f : DisperseCall) → Disperses (disperser_of f) → Copies (disperser_of f) → ⊥
+  pub silent : (f : StepCall) → Receives (listener_of f) → NeverDelivers (listener_of f) → ⊥
