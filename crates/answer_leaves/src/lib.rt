@@ -1,9 +1,17 @@
-// Calls 3 to 5 of docs/CASES.md: dispersal, big-endian numbers. Nothing here decides an answer: each function is handed what stands in the
-// case, calls the library once, and says what came back.
+// Calls 1 to 5 of docs/CASES.md: check words, dispersal, big-endian numbers. Nothing here decides an answer: each function is handed what
+// stands in the case, calls the library once, and says what came back.
 #![tactic(auto)]
 
 use cases::case;
 use saying::Said;
+
+pub fn crc8(s: &[u8]) -> Said {
+    saying::one(0, u64::from(crc::crc8(s)))
+}
+
+pub fn crc16(s: &[u8]) -> Said {
+    saying::one(0, u64::from(crc::crc16(s)))
+}
 
 pub fn disperse(input: &[u8], output: &mut [u8]) -> Said {
     let (number, ()) = saying::numbered(dispersal::disperse(input, output));

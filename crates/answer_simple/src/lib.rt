@@ -48,8 +48,8 @@ fn form_of(call: u8) -> Form {
 // Kept: a match on the number of a case (docs/CASES.md): each arm has arguments of its own, so no closure could stand for all.
 fn say(call: u8, body: &[u8], between: usize, s: &[u8], dst: &mut [u8]) -> Option<Said> {
     let said = match call {
-        1 => saying::one(0, u64::from(crc::crc8(s))),
-        2 => saying::one(0, u64::from(crc::crc16(s))),
+        1 => answer_leaves::crc8(s),
+        2 => answer_leaves::crc16(s),
         3 => answer_leaves::disperse(s, dst),
         4 => answer_leaves::number_read(body, s)?,
         5 => answer_leaves::number_write(body, dst)?,

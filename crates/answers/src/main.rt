@@ -35,7 +35,7 @@ fn answer_next(rt: &impl Print, source: &mut impl Read, body: &mut [u8], out: &m
     }
 }
 
-// A proved loop has to end, and nothing says that the input does. So the loop counts its turns down, from a number that no run uses up.
+// A proved loop has to end, and nothing says that the input does. So the loop has a number of turns that no run uses up.
 // It takes arrays, and not slices: a proof need not count their bytes.
 fn answer_all(
     rt: &impl Print,

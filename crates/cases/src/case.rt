@@ -25,6 +25,13 @@ pub fn past(at: usize, n: usize) -> usize
     at.saturating_add(n).min(FAR)
 }
 
+// A length as it stands in a case, as a number of bytes.
+pub fn wide(x: u32) -> usize
+    ensures { result ≡ x }
+{
+    x as usize
+}
+
 // The byte at a position, 0 past the end.
 pub fn byte(s: &[u8], at: usize) -> u8
     ensures { result ≡ slice_index s.now at }
@@ -48,7 +55,7 @@ pub fn buffer(body: &[u8], at: usize, into: &mut [u8]) -> Option<Taken>
     ensures { IfSome result (λ t. t.len ≤ length into.new) }
 {
     let start = past(at, 5);
-    let len = fields::read32(body, past(at, 1)) as usize;
+    let len = wide(fields::read32(body, past(at, 1)));
     if into.len() < len {
         return None;
     }

@@ -1,6 +1,7 @@
 // The next case of an input.
 ghost use Rattle.std.specs.Prelude.{◌≤◌, length, IfOk, IfSome};
 
+use crate::case;
 use std::io::Read;
 
 // A whole case: its body stands at the front of the slice.
@@ -23,7 +24,7 @@ pub fn next(input: &mut impl Read, body: &mut [u8]) -> Result<Option<Case>, CutO
     if got == 0 {
         return Ok(None);
     }
-    let size = fields::read32(&head, 1) as usize;
+    let size = case::wide(fields::read32(&head, 1));
     if got < head.len() || body.len() < size {
         return Err(CutOff);
     }
