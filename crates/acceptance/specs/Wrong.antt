@@ -1,6 +1,6 @@
 -- The wrong programs that 01 lists ("Acceptance of the promises"), each as a condition on a function from what a call is handed to its answer
 -- and the lent memory after it; and what it is for such a function to meet the promise of the call. The answer of a call that gives a `Result` is
--- taken in 01's numbers and values, and the last part says all of it of such a call as it stands. Assumes nothing.
+-- taken in 01's numbers and values; the last part says the same of those calls as they stand. Assumes nothing.
 use Rattle.std.specs.Prelude.{ℕ, ◌+◌, ◌<◌, ◌≡◌, List, length, take, Result}
 use Rattle.laws.specs.Written.{written}
 use Rattle.demand.specs.Bytes.{split, of_id}
@@ -126,8 +126,8 @@ Counts f = (g : Settings) (s : Sender) (store out : List ℕ) → Shaped s → (
 abbrev pub Invents : Framer → Type 0
 Invents f = Counts f → ⊥
 
--- ---- the calls whose answer is a `Result`, of the types that they have in src/: what each says in 01's numbers and values is one of the functions
--- above, and to meet their promise is to meet the call's `ensures`, word for word
+-- ---- the same for the calls as they stand in src/, whose answer is a `Result`. `reader_of f` is the call f with its answer told in 01's number, place
+-- and record; so are the other two. What such a function has to meet is each clause of the call's `ensures` on answer and lent memory.
 abbrev pub ReadCall : Type 0
 ReadCall = List ℕ → Result Record placed.Refused
 

@@ -5,6 +5,7 @@
 use cases::case;
 use saying::Said;
 
+// Kept: two calls, since docs/PROMISES.md promises both.
 pub fn crc8(s: &[u8]) -> Said {
     saying::one(0, u64::from(crc::crc8(s)))
 }

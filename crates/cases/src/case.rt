@@ -26,6 +26,7 @@ pub fn past(at: usize, n: usize) -> usize
 }
 
 // A length as it stands in a case, as a number of bytes.
+// Kept: a name for a conversion, since docs/PROMISES.md promises the call.
 pub fn wide(x: u32) -> usize
     ensures { result ≡ x }
 {

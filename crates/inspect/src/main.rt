@@ -24,7 +24,8 @@ fn print(rt: &impl Print, out: &[u8; 1024], n: usize) -> io::Result<()> {
 }
 
 // A recording as far as it is read: what is seen of it, the bytes of an entry that is not yet whole, and the lines of the last call. It stays in
-// one place and is lent, since a report is 1,400 bytes, which are copied for each call of `report` as it is.
+// one place and is lent: a report is some 1,400 bytes, and handing it on by value took a third of a run.
+// Kept: two arrays for the lines, since `report::feed` writes a line to each.
 #[derive(Drop)]
 struct Run {
     report: Report,
