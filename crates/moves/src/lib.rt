@@ -16,8 +16,8 @@ pub fn copy(src: &[u8], dst: &mut [u8], at: usize)
     ensures { dst.new ≡ placed dst.old at src.now }
 {
     if fits(dst, at, src.len()) {
-        // Kept: byte by byte, which the compiler makes one `memcpy`. `copy_from_slice` becomes a `memmove`, and README promises that the archive
-        // for C calls nothing but `memcpy` and `memset`.
+        // Kept: byte by byte. `copy_from_slice` becomes a `memmove`, and README promises that the archive for C calls nothing but `memcpy` and
+        // `memset`.
         for (j, byte) in src.iter().enumerate() {
             dst[at + j] = *byte;
         }
