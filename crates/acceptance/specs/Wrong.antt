@@ -127,7 +127,7 @@ abbrev pub Invents : Framer → Type 0
 Invents f = Counts f → ⊥
 
 -- ---- the same for the calls as they stand in src/, whose answer is a `Result`. `reader_of f` is the call f with its answer told in 01's number, place
--- and record; so are the other two. What such a function has to meet is each clause of the call's `ensures` on answer and lent memory.
+-- and record; so are the other two. What such a function has to meet is what the call's `ensures` says of the whole answer and of lent memory.
 abbrev pub ReadCall : Type 0
 ReadCall = List ℕ → Result Record placed.Refused
 
